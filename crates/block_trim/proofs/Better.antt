@@ -4,7 +4,7 @@ use Rattle.std.specs.Prelude.{All, slice_get}
 use Rattle.std.proofs.Math.Nat.{pow-succ'}
 use Rattle.std.proofs.lemmas.Bool.{eq-eqb, eqb-true, eqb-false, ne_eqb}
 use Rattle.std.proofs.lemmas.List.Elements.{All-head, All-tail}
-use Rattle.ir_tree.specs.Flow.{edges, leading_to, targets}
+use Rattle.ir_tree.specs.Flow.{edges, leading_to, successors}
 use Rattle.ir_tree.specs.Formed.{Distinct}
 use Rattle.ir_tree.specs.declared.block.Block.{Block}
 use Rattle.ir_tree.specs.declared.block.Terminator.{Terminator}
@@ -135,11 +135,11 @@ module _ (f : Function) (fits : Fits f) (a y : Block) (can : CanJoin f a y) wher
       lines false = sym (append-nil b.lines)
 
   -- no other block leads to the second
-  pub only_from : (c : Block) → IsOneOf f.blocks c → 1 ≤ times y.number (targets c.end) → c.number ≡ a.number
+  pub only_from : (c : Block) → IsOneOf f.blocks c → 1 ≤ times y.number (successors c.end) → c.number ≡ a.number
   only_from c (i, at) some =
-      let many : times i (edges f y_is.0) ≡ times y.number (targets c.end) = edges_from f y_is.0 y y_is.1 i ∙ ap (out_to y.number) at in
-      let first : times can.first.0 (edges f y_is.0) ≡ times y.number (targets a.end) = edges_from f y_is.0 y y_is.1 can.first.0 ∙ ap (out_to y.number) can.first.1 in
-      let jumps : times y.number (targets a.end) ≡ 1 = ap (λ (t : Terminator). times y.number (targets t)) can.jumps ∙ ap (λ (t : Bool). if t then 1 else 0) (eq-eqb y.number y.number refl) in
+      let many : times i (edges f y_is.0) ≡ times y.number (successors c.end) = edges_from f y_is.0 y y_is.1 i ∙ ap (out_to y.number) at in
+      let first : times can.first.0 (edges f y_is.0) ≡ times y.number (successors a.end) = edges_from f y_is.0 y y_is.1 can.first.0 ∙ ap (out_to y.number) can.first.1 in
+      let jumps : times y.number (successors a.end) ≡ 1 = ap (λ (t : Terminator). times y.number (successors t)) can.jumps ∙ ap (λ (t : Bool). if t then 1 else 0) (eq-eqb y.number y.number refl) in
       let one : length (edges f y_is.0) ≡ 1 = ap (λ (o : Option Block). length (leading_to f.blocks o)) y_is.1 ∙ can.only in
       let same : i ≡ can.first.0 = single (edges f y_is.0) i can.first.0 one (omega (arith, many, some)) (omega (arith, first, jumps)) in
       let both : Some c ≡ Some a = sym at ∙ ap (slice_get f.blocks) same ∙ can.first.1 in
@@ -149,7 +149,7 @@ module _ (f : Function) (fits : Fits f) (a y : Block) (can : CanJoin f a y) wher
   -- ---- phis
 
   none_of_first : (b : Block) → IsOneOf f.blocks b → nat_eq y.number b.number ≡ false → All (λ p. times a.number (sources p.incoming) ≡ 0) b.phis
-  none_of_first b is ne = λ k d lt. fits.entries b a is can.first k d lt ∙ ap (λ (t : Terminator). times b.number (targets t)) can.jumps ∙ ap (λ (t : Bool). if t then 1 else 0) ne
+  none_of_first b is ne = λ k d lt. fits.entries b a is can.first k d lt ∙ ap (λ (t : Terminator). times b.number (successors t)) can.jumps ∙ ap (λ (t : Bool). if t then 1 else 0) ne
 
   phis_stay : (sig : Signature) (ls : Locals) (m : ℕ) → nat_eq a.number m ≡ false → (ps : List Phi) → All (λ p. times a.number (sources p.incoming) ≡ 0) ps
       → phis_bound sig ls (renamed y.number a.number m) (map (phi_named (renamed y.number a.number)) ps) ls ≡ phis_bound sig ls m ps ls
@@ -177,10 +177,10 @@ module _ (f : Function) (fits : Fits f) (a y : Block) (can : CanJoin f a y) wher
       by None e = let stuck : exit_of (value_of sig locals) Unreachable ≡ Leads' n = sym (ap (exit_of (value_of sig locals)) (end ∙ ap end_of e)) ∙ leads in absurd (cc stuck)
       by (Some from) e =
           let ends : t.end ≡ from.end = end ∙ ap end_of e in
-          let some : 1 ≤ times n (targets from.end) = exit_among (value_of sig locals) from.end n (ap (exit_of (value_of sig locals)) (sym ends) ∙ leads) in
+          let some : 1 ≤ times n (successors from.end) = exit_among (value_of sig locals) from.end n (ap (exit_of (value_of sig locals)) (sym ends) ∙ leads) in
           let number : z.number ≡ n = number_found f.blocks n z at_n in
           let other : nat_eq y.number n ≡ false =
-          ne_eqb y.number n (λ q. eqb-false a.number t.block ne (sym (only_from from (found_at f.blocks t.block from e) (subst (λ (m : ℕ). 1 ≤ times m (targets from.end)) (sym q) some)) ∙ number_found f.blocks t.block from e)) in
+          ne_eqb y.number n (λ q. eqb-false a.number t.block ne (sym (only_from from (found_at f.blocks t.block from e) (subst (λ (m : ℕ). 1 ≤ times m (successors from.end)) (sym q) some)) ∙ number_found f.blocks t.block from e)) in
           let other' : nat_eq y.number z.number ≡ false = ap (nat_eq y.number) number ∙ other in (
             joined_block a.number y z,
             find_joined a.number y f.blocks n other ∙ ap (option_map (joined_block a.number y)) at_n,

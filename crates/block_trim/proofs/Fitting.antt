@@ -3,7 +3,7 @@ use Rattle.std.proofs.Common.{◌≡◌, ◌≢◌, ℕ, zero, suc, ◌+◌, nat
 use Rattle.std.specs.Prelude.{All, slice_get}
 use Rattle.std.proofs.lemmas.Bool.{eq-eqb, eqb-true, eqb-false, ne_eqb}
 use Rattle.std.proofs.lemmas.List.Elements.{All-cons, All-head, All-nil, All-tail}
-use Rattle.ir_tree.specs.Flow.{targets}
+use Rattle.ir_tree.specs.Flow.{successors}
 use Rattle.ir_tree.specs.Formed.{Distinct}
 use Rattle.ir_tree.specs.Rules.{Sound}
 use Rattle.ir_tree.specs.declared.block.Block.{Block}
@@ -122,7 +122,7 @@ entries_new old new ne (e ∷ es) = by (nat_eq old e.from) refl (entries_new old
 -- blocks have numbers of their own, and each phi has as many entries of a block as edges lead from there
 pub record Fits (f : Function) : Type 0 where
   pub once : Distinct (numbers_in f.blocks)
-  pub entries : (b from : Block) → IsOneOf f.blocks b → IsOneOf f.blocks from → All (λ p. times from.number (sources p.incoming) ≡ times b.number (targets from.end)) b.phis
+  pub entries : (b from : Block) → IsOneOf f.blocks b → IsOneOf f.blocks from → All (λ p. times from.number (sources p.incoming) ≡ times b.number (successors from.end)) b.phis
 
 pub sound_fits : (f : Function) → Sound f → Fits f
 sound_fits f h = record {
@@ -145,37 +145,37 @@ module _ (f : Function) (fits : Fits f) (a y : Block) (can : CanJoin f a y) wher
   y_there = in_behind f.blocks y can.second
 
   -- what the first block leads to is the second alone
-  none_from : (n : ℕ) → nat_eq y.number n ≡ false → times n (targets a.end) ≡ 0
-  none_from n e = ap (λ (t : Terminator). times n (targets t)) can.jumps ∙ ap (λ (t : Bool). if t then 1 else 0) e
+  none_from : (n : ℕ) → nat_eq y.number n ≡ false → times n (successors a.end) ≡ 0
+  none_from n e = ap (λ (t : Terminator). times n (successors t)) can.jumps ∙ ap (λ (t : Bool). if t then 1 else 0) e
 
   abbrev Right : ℕ → Block → Phi → Type 0
-  Right n from p = times from.number (sources p.incoming) ≡ times n (targets from.end)
+  Right n from p = times from.number (sources p.incoming) ≡ times n (successors from.end)
 
-  from_first : (b : Block) → IsOneOf f.blocks b → nat_eq y.number b.number ≡ false → All (λ p. times a.number (sources (phi_named name p).incoming) ≡ times b.number (targets y.end)) b.phis
+  from_first : (b : Block) → IsOneOf f.blocks b → nat_eq y.number b.number ≡ false → All (λ p. times a.number (sources (phi_named name p).incoming) ≡ times b.number (successors y.end)) b.phis
   from_first b b_there apart =
-      both (Right b.number a) (Right b.number y) (λ p. times a.number (sources (phi_named name p).incoming) ≡ times b.number (targets y.end))
+      both (Right b.number a) (Right b.number y) (λ p. times a.number (sources (phi_named name p).incoming) ≡ times b.number (successors y.end))
       (λ p h g.
       let all : times a.number (sources (map (entry_named name) p.incoming)) ≡ times a.number (sources p.incoming) + times y.number (sources p.incoming) = entries_new y.number a.number (λ s. can.other (sym s)) p.incoming in
-      let none : times b.number (targets a.end) ≡ 0 = none_from b.number apart in
+      let none : times b.number (successors a.end) ≡ 0 = none_from b.number apart in
       omega (arith, all, none, h, g)) b.phis (fits.entries b a b_there can.first) (fits.entries b y b_there y_there)
 
-  entries_now : (z w : Block) → IsOneOf (joined a.number y f).blocks z → IsOneOf (joined a.number y f).blocks w → All (λ p. times w.number (sources p.incoming) ≡ times z.number (targets w.end)) z.phis
+  entries_now : (z w : Block) → IsOneOf (joined a.number y f).blocks z → IsOneOf (joined a.number y f).blocks w → All (λ p. times w.number (sources p.incoming) ≡ times z.number (successors w.end)) z.phis
   entries_now z w z_is w_is = by (stood a.number y f.blocks z z_is) (stood a.number y f.blocks w w_is)
     where
       at : (b c : Block) → IsOneOf f.blocks b → IsOneOf f.blocks c → nat_eq y.number b.number ≡ false → nat_eq y.number c.number ≡ false → (t : Bool) → nat_eq a.number c.number ≡ t
-          → All (λ p. times c.number (sources (phi_named name p).incoming) ≡ times b.number (targets (if t then y.end else c.end))) b.phis
+          → All (λ p. times c.number (sources (phi_named name p).incoming) ≡ times b.number (successors (if t then y.end else c.end))) b.phis
       at b c b_is c_is b_apart c_apart true e =
-          subst (λ (n : ℕ). All (λ p. times n (sources (phi_named name p).incoming) ≡ times b.number (targets y.end)) b.phis) (eqb-true a.number c.number e) (from_first b b_is b_apart)
+          subst (λ (n : ℕ). All (λ p. times n (sources (phi_named name p).incoming) ≡ times b.number (successors y.end)) b.phis) (eqb-true a.number c.number e) (from_first b b_is b_apart)
       at b c b_is c_is b_apart c_apart false e =
-          both (Right b.number c) (Right b.number c) (λ p. times c.number (sources (phi_named name p).incoming) ≡ times b.number (targets c.end))
+          both (Right b.number c) (Right b.number c) (λ p. times c.number (sources (phi_named name p).incoming) ≡ times b.number (successors c.end))
           (λ p h g. entries_other c.number y.number a.number (λ s. eqb-false y.number c.number c_apart (sym s)) (λ s. eqb-false a.number c.number e (sym s)) p.incoming ∙ h) b.phis (fits.entries b c b_is c_is) (fits.entries b c b_is c_is)
 
-      by : Stood a.number y f.blocks z → Stood a.number y f.blocks w → All (λ p. times w.number (sources p.incoming) ≡ times z.number (targets w.end)) z.phis
+      by : Stood a.number y f.blocks z → Stood a.number y f.blocks w → All (λ p. times w.number (sources p.incoming) ≡ times z.number (successors w.end)) z.phis
       by (b, b_is, b_apart, z_made) (c, c_is, c_apart, w_made) =
-          subst (λ (u : Block). All (λ p. times w.number (sources p.incoming) ≡ times u.number (targets w.end)) u.phis) (sym z_made)
-          (subst (λ (u : Block). All (λ p. times u.number (sources p.incoming) ≡ times b.number (targets u.end)) (map (phi_named name) b.phis)) (sym w_made)
-          (mapped (λ p. times c.number (sources (phi_named name p).incoming) ≡ times b.number (targets (joined_block a.number y c).end))
-          (λ p. times c.number (sources p.incoming) ≡ times b.number (targets (joined_block a.number y c).end)) (phi_named name) (λ p h. h) b.phis
+          subst (λ (u : Block). All (λ p. times w.number (sources p.incoming) ≡ times u.number (successors w.end)) u.phis) (sym z_made)
+          (subst (λ (u : Block). All (λ p. times u.number (sources p.incoming) ≡ times b.number (successors u.end)) (map (phi_named name) b.phis)) (sym w_made)
+          (mapped (λ p. times c.number (sources (phi_named name p).incoming) ≡ times b.number (successors (joined_block a.number y c).end))
+          (λ p. times c.number (sources p.incoming) ≡ times b.number (successors (joined_block a.number y c).end)) (phi_named name) (λ p h. h) b.phis
           (at b c b_is c_is b_apart c_apart (nat_eq a.number c.number) refl)))
 
   pub fits_still : Fits (joined a.number y f)

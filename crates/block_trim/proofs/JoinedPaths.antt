@@ -6,7 +6,7 @@ use Rattle.std.proofs.lemmas.Bool.{eq-eqb, eqb-true, ne_eqb, or_cases, or_left, 
 use Rattle.std.proofs.lemmas.List.{take_all}
 use Rattle.std.proofs.lemmas.List.Folds.{list_any-append}
 use Rattle.std.proofs.lemmas.Option.{slice_get_within}
-use Rattle.ir_tree.specs.Flow.{Among, AtEnds, Available, AvailableAt, AvailableAtEnd, IsJustified, Justified, availability, defined_before, defined_in, definitions, edges, entry_row, holds, line_count, locals, parameters, phi_locals, results, room, targets}
+use Rattle.ir_tree.specs.Flow.{Among, AtEnds, Available, AvailableAt, AvailableAtEnd, IsJustified, Justified, availability, defined_before, defined_in, definitions, edges, entry_row, holds, line_count, locals, parameters, phi_locals, results, room, successors}
 use Rattle.ir_tree.specs.Formed.{Distinct, IsBlock, numbers}
 use Rattle.ir_tree.specs.Rules.{place}
 use Rattle.ir_tree.specs.declared.block.Block.{Block}
@@ -124,8 +124,8 @@ module _ (f : Function) (fits : Fits f) (a y : Block) (can : CanJoin f a y) (onc
         by (inl e) = inl e
         by (inr e) = inr (sym (ap (λ (o : Option Block). defined_in o x) at) ∙ e)
 
-    old_edge : (i p : ℕ) (b c : Block) → slice_get f.blocks i ≡ Some b → slice_get f.blocks p ≡ Some c → 1 ≤ times b.number (targets c.end) → Among p (edges f i)
-    old_edge i p b c at at_p some = let many : times p (edges f i) ≡ times b.number (targets c.end) = edges_from f i b at p ∙ ap (out_to b.number) at_p in among_times p (edges f i) (omega (arith, many, some))
+    old_edge : (i p : ℕ) (b c : Block) → slice_get f.blocks i ≡ Some b → slice_get f.blocks p ≡ Some c → 1 ≤ times b.number (successors c.end) → Among p (edges f i)
+    old_edge i p b c at at_p some = let many : times p (edges f i) ≡ times b.number (successors c.end) = edges_from f i b at p ∙ ap (out_to b.number) at_p in among_times p (edges f i) (omega (arith, many, some))
 
     pred_end : (i j : ℕ) (b : Block) → Moves i j b → AtEnds (availability f) rows x (edges f i) → (q : ℕ) → 1 ≤ times q (edges g j) → Ends rows x q
     pred_end i j b k h q some = by (slice_get g.blocks q) refl
@@ -133,7 +133,7 @@ module _ (f : Function) (fits : Fits f) (a y : Block) (can : CanJoin f a y) (onc
         many : times q (edges g j) ≡ out_to b.number (slice_get g.blocks q)
         many = edges_from g j (joined_block a.number y b) k.new q
 
-        moved : (p : ℕ) (c : Block) → Moves p q c → (t : Bool) → nat_eq a.number c.number ≡ t → times q (edges g j) ≡ times b.number (targets (if t then y.end else c.end)) → Ends rows x q
+        moved : (p : ℕ) (c : Block) → Moves p q c → (t : Bool) → nat_eq a.number c.number ≡ t → times q (edges g j) ≡ times b.number (successors (if t then y.end else c.end)) → Ends rows x q
         moved p c from true e leads = second_end p q c from e (old_end i behind y at_behind h (old_edge i behind b y k.old at_behind (omega (arith, some, leads))))
         moved p c from false e leads = own_end p q c from (old_end i p c from.old h (old_edge i p b c k.old from.old (omega (arith, some, leads))))
 

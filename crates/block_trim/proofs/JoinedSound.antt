@@ -6,7 +6,7 @@ use Rattle.std.proofs.lemmas.List.Elements.{All-append, All-cons, All-head, All-
 use Rattle.std.proofs.lemmas.List.Recursion.{is_count_by}
 use Rattle.std.proofs.lemmas.Option.{slice_get-map}
 use Rattle.std.proofs.lemmas.Simd.{map-map}
-use Rattle.ir_tree.specs.Flow.{AvailableAt, AvailableAtEnd, edges, targets}
+use Rattle.ir_tree.specs.Flow.{AvailableAt, AvailableAtEnd, edges, successors}
 use Rattle.ir_tree.specs.Formed.{ArgumentFormed, IsBlock, ItemFormed}
 use Rattle.ir_tree.specs.Items.{Item, phi_item, line_item, end_item, block_items, end_reads, items, items_from, lines_from, phi_reads, reads, taken, taken_as, typed}
 use Rattle.ir_tree.specs.Rules.{EndTypes, HasType, IsNoPhi, IsThere, IsThereAtEnd, Keeps, LineOnEdges, OnEdges, Sound, place}
@@ -169,22 +169,22 @@ module _ (f : Function) (sound : Sound f) (a y : Block) (can : CanJoin f a y) wh
   end_types Unreachable h = h
 
   -- a terminator that doesn't lead to the second block
-  end_now : (i j : ℕ) → ((x : ℕ) → AvailableAtEnd f i x → AvailableAtEnd g j x) → (t : Terminator) → ((n : ℕ) → 1 ≤ times n (targets t) → nat_eq y.number n ≡ false) → Was (end_item i t) → Now (end_item j t)
+  end_now : (i j : ℕ) → ((x : ℕ) → AvailableAtEnd f i x → AvailableAtEnd g j x) → (t : Terminator) → ((n : ℕ) → 1 ≤ times n (successors t) → nat_eq y.number n ≡ false) → Was (end_item i t) → Now (end_item j t)
   end_now i j move t apart h = (
     record {
       operands = all_formed (end_reads t) h.0.operands;
       sources = All-nil (λ e. IsBlock g e.from);
-      kind = (h.0.kind.0, all_of_times (IsBlock g) (targets t) still);
+      kind = (h.0.kind.0, all_of_times (IsBlock g) (successors t) still);
     },
     keeps,
   )
     where
-      still : (n : ℕ) → 1 ≤ times n (targets t) → IsBlock g n
-      still n some = subst (λ (b : Bool). IsBlock g (if b then a.number else n)) (apart n some) (named f fits a y can sound.formed.once n (all_among (IsBlock f) n (targets t) h.0.kind.1 some)).0
+      still : (n : ℕ) → 1 ≤ times n (successors t) → IsBlock g n
+      still n some = subst (λ (b : Bool). IsBlock g (if b then a.number else n)) (apart n some) (named f fits a y can sound.formed.once n (all_among (IsBlock f) n (successors t) h.0.kind.1 some)).0
 
-      leaves : (n : ℕ) → 1 ≤ times n (targets t) → place g.blocks n ≡ 0 → ⊥
+      leaves : (n : ℕ) → 1 ≤ times n (successors t) → place g.blocks n ≡ 0 → ⊥
       leaves n some is =
-          all_among (λ n. place f.blocks n ≡ 0 → ⊥) n (targets t) (h.1 EntryBranch) some
+          all_among (λ n. place f.blocks n ≡ 0 → ⊥) n (successors t) (h.1 EntryBranch) some
           (eqb-true (place f.blocks n) 0 (entry_kept f fits a y can f.blocks refl n ∙ eq-eqb (place g.blocks n) 0 is))
 
       keeps : (rule : Rule) → Keeps g rule (end_item j t)
@@ -195,7 +195,7 @@ module _ (f : Function) (sound : Sound f) (a y : Block) (can : CanJoin f a y) wh
       )
       keeps PhiEdges = tt
       keeps PhiPlace = tt
-      keeps EntryBranch = all_of_times (λ n. place g.blocks n ≡ 0 → ⊥) (targets t) leaves
+      keeps EntryBranch = all_of_times (λ n. place g.blocks n ≡ 0 → ⊥) (successors t) leaves
       keeps Index = tt
       keeps Cast = tt
       keeps CaseTwice = h.1 CaseTwice
@@ -227,7 +227,7 @@ module _ (f : Function) (sound : Sound f) (a y : Block) (can : CanJoin f a y) wh
 
   -- as many entries of each block as edges from it
   abbrev Counted : Block → Phi → Type 0
-  Counted b p = (w : Block) → IsOneOf g.blocks w → times w.number (sources p.incoming) ≡ times b.number (targets w.end)
+  Counted b p = (w : Block) → IsOneOf g.blocks w → times w.number (sources p.incoming) ≡ times b.number (successors w.end)
 
   -- the entry at a place came from one that stood there
   abbrev Came : List Incoming → ℕ → Incoming → Type 0
@@ -255,7 +255,7 @@ module _ (f : Function) (sound : Sound f) (a y : Block) (can : CanJoin f a y) wh
       not_first s c at is =
           let some : 1 ≤ times a.number (sources p.incoming) = subst (λ (n : ℕ). 1 ≤ times n (sources p.incoming)) is (source_counted p.incoming s c at) in
           let none : times a.number (sources p.incoming) ≡ 0 =
-          entries_of f fits.once i b k.old can.first.0 a can.first.1 p.incoming h ∙ ap (λ (t : Terminator). times b.number (targets t)) can.jumps ∙ ap (λ (t : Bool). if t then 1 else 0) k.apart in
+          entries_of f fits.once i b k.old can.first.0 a can.first.1 p.incoming h ∙ ap (λ (t : Terminator). times b.number (successors t)) can.jumps ∙ ap (λ (t : Bool). if t then 1 else 0) k.apart in
           omega (arith, some, none)
 
       equal : (s t : ℕ) (e d : Incoming) → Came p.incoming s e → Came p.incoming t d → e.from ≡ d.from → e.value ≡ d.value

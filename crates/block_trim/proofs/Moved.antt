@@ -2,7 +2,7 @@
 use Rattle.std.proofs.Common.{◌≡◌, ℕ, zero, suc, ◌≤◌, nat_eq, Bool, true, false, ◌⊎◌, inl, inr, List, [], ◌∷◌, Some, refl, sym, ◌∙◌, ap, subst, arith, if◌then◌else◌}
 use Rattle.std.specs.Prelude.{slice_get}
 use Rattle.std.proofs.lemmas.Bool.{eq-eqb, eqb-true, eqb-false, ne_eqb, or_cases, or_left, or_right}
-use Rattle.ir_tree.specs.Flow.{Among, edges, holds, targets}
+use Rattle.ir_tree.specs.Flow.{Among, edges, holds, successors}
 use Rattle.ir_tree.specs.Rules.{place}
 use Rattle.ir_tree.specs.declared.block.Block.{Block}
 use Rattle.ir_tree.specs.declared.block.Terminator.{Terminator}
@@ -97,15 +97,15 @@ module _ (f : Function) (fits : Fits f) (a y : Block) (can : CanJoin f a y) wher
 
   pub first_leads : (i : ℕ) (b : Block) → slice_get f.blocks i ≡ Some b → nat_eq a.number b.number ≡ true → Among i (edges f (suc second.0))
   first_leads i b at e =
-      let many : times i (edges f (suc second.0)) ≡ times y.number (targets b.end) = edges_from f (suc second.0) y second.1 i ∙ ap (out_to y.number) at in
-      let jumps : times y.number (targets b.end) ≡ 1 =
-      ap (λ (c : Block). times y.number (targets c.end)) (sym (is_first b (i, at) e)) ∙ ap (λ (t : Terminator). times y.number (targets t)) can.jumps ∙ ap (λ (t : Bool). if t then 1 else 0) (eq-eqb y.number y.number refl) in
+      let many : times i (edges f (suc second.0)) ≡ times y.number (successors b.end) = edges_from f (suc second.0) y second.1 i ∙ ap (out_to y.number) at in
+      let jumps : times y.number (successors b.end) ≡ 1 =
+      ap (λ (c : Block). times y.number (successors c.end)) (sym (is_first b (i, at) e)) ∙ ap (λ (t : Terminator). times y.number (successors t)) can.jumps ∙ ap (λ (t : Bool). if t then 1 else 0) (eq-eqb y.number y.number refl) in
       among_times i (edges f (suc second.0)) (omega (arith, many, jumps))
 
   -- the other blocks lead to others than the second
-  pub leads_apart : (c : Block) → IsOneOf f.blocks c → nat_eq a.number c.number ≡ false → (n : ℕ) → 1 ≤ times n (targets c.end) → nat_eq y.number n ≡ false
+  pub leads_apart : (c : Block) → IsOneOf f.blocks c → nat_eq a.number c.number ≡ false → (n : ℕ) → 1 ≤ times n (successors c.end) → nat_eq y.number n ≡ false
   leads_apart c is other n some =
-      ne_eqb y.number n (λ s. eqb-false a.number c.number other (sym (only_from f fits a y can c is (subst (λ (m : ℕ). 1 ≤ times m (targets c.end)) (sym s) some))))
+      ne_eqb y.number n (λ s. eqb-false a.number c.number other (sym (only_from f fits a y can c is (subst (λ (m : ℕ). 1 ≤ times m (successors c.end)) (sym s) some))))
 
   -- ---- the entry stays the entry
 

@@ -3,7 +3,7 @@ use Rattle.std.proofs.Common.{◌≡◌, ◌≢◌, ℕ, suc, ◌+◌, nat_eq, B
 use Rattle.std.specs.Prelude.{◌&&◌, not, is_some}
 use Rattle.std.specs.HashSet as hash_set
 use Rattle.std.proofs.lemmas.Bool.{and_from, and_parts, eq-eqb, eqb-true, ne_eqb}
-use Rattle.ir_tree.specs.Flow.{leading, targets}
+use Rattle.ir_tree.specs.Flow.{leading, successors}
 use Rattle.ir_tree.specs.Formed.{Distinct, numbers}
 use Rattle.ir_tree.specs.Rules.{place}
 use Rattle.ir_tree.specs.declared.block.Block.{Block}
@@ -282,7 +282,7 @@ module _ (f : Function) (once : Distinct (numbers f)) (old new : Joining) (first
     v m = out_of n (left new m)
 
     v_first : v first ≡ out_of n (Some b)
-    v_first = ap (out_of n) (made.left first ∙ ap (λ (t : Bool). if t then Some made.content else if nat_eq second first then None else left old first) (eq-eqb first first refl)) ∙ ap (λ (t : Terminator). counted n (targets t) 0) made.end
+    v_first = ap (out_of n) (made.left first ∙ ap (λ (t : Bool). if t then Some made.content else if nat_eq second first then None else left old first) (eq-eqb first first refl)) ∙ ap (λ (t : Terminator). counted n (successors t) 0) made.end
 
     v_second : v second ≡ 0
     v_second =
@@ -302,7 +302,7 @@ module _ (f : Function) (once : Distinct (numbers f)) (old new : Joining) (first
             ∙ ap (λ (t : Bool). if t then out_of n (Some b) else w m) (sym h)
 
     w_first : w first ≡ 0
-    w_first = ap (out_of n) first_left ∙ ap (λ (t : Terminator). counted n (targets t) 0) jumps ∙ ap (λ (t : Bool). if t then 1 else 0) other
+    w_first = ap (out_of n) first_left ∙ ap (λ (t : Terminator). counted n (successors t) 0) jumps ∙ ap (λ (t : Bool). if t then 1 else 0) other
 
     edges_stay : length (leading n 0 (at_work new f).blocks) ≡ length (leading n 0 (at_work old f).blocks)
     edges_stay =

@@ -2,7 +2,7 @@
 use Rattle.std.proofs.Common.{◌≡◌, ℕ, ◌≤◌, ◌<◌, nat_eq, Bool, true, false, List, [], ◌∷◌, ◌++◌, length, Option, Some, None, map, option_map, ◌⊎◌, inl, inr, refl, sym, ◌∙◌, ap, subst, arith, if◌then◌else◌, append-nil}
 use Rattle.std.specs.Prelude.{slice_get}
 use Rattle.std.proofs.lemmas.Bool.{eqb-true, eq-eqb}
-use Rattle.ir_tree.specs.Flow.{Among, Reachable, edges, leading, leading_to, targets}
+use Rattle.ir_tree.specs.Flow.{Among, Reachable, edges, leading, leading_to, successors}
 use Rattle.ir_tree.specs.declared.block.Block.{Block}
 use Rattle.ir_tree.specs.declared.block.Terminator.{Terminator}
 use Rattle.ir_tree.specs.declared.block.Terminator.TheVariants.{Unreachable}
@@ -77,11 +77,11 @@ first_reached f n y found (b, block, at_b, number, (p ∷ ps, path)) =
     (place.0, place.1, (p ∷ ps, (subst (Among p) alike path.0, path.1)))
 
 -- so is each block to which it leads
-next_reached : (f : Function) (y z : Block) (m : ℕ) → ReachedAt f y → 1 ≤ times m (targets y.end) → find_block f.blocks m ≡ Some z → IsReached f m
+next_reached : (f : Function) (y z : Block) (m : ℕ) → ReachedAt f y → 1 ≤ times m (successors y.end) → find_block f.blocks m ≡ Some z → IsReached f m
 next_reached f y z m (q, at_q, (ps, path)) leads found =
     let place : (r : ℕ) × (slice_get f.blocks r ≡ Some z) = found_at f.blocks m z found in
     let number : z.number ≡ m = number_found f.blocks m z found in
-    let many : times q (edges f place.0) ≡ times m (targets y.end) = edges_from f place.0 z place.1 q ∙ ap (out_to z.number) at_q ∙ ap (λ (k : ℕ). times k (targets y.end)) number in
+    let many : times q (edges f place.0) ≡ times m (successors y.end) = edges_from f place.0 z place.1 q ∙ ap (out_to z.number) at_q ∙ ap (λ (k : ℕ). times k (successors y.end)) number in
     (place.0, z, place.1, number, (q ∷ ps, (among_times q (edges f place.0) (omega (arith, many, leads)), path)))
 
 -- ---- the pass
@@ -115,7 +115,7 @@ module _ (f : Function) (reached : ℕ → Bool) (are : AreReached f reached) wh
       by None e = let stuck : exit_of (value_of sig locals) Unreachable ≡ Leads' n = sym (ap (exit_of (value_of sig locals)) (end ∙ ap end_of e)) ∙ leads in absurd (cc stuck)
       by (Some from) e =
           let ends : b.end ≡ from.end = end ∙ ap end_of e in
-          let some : 1 ≤ times n (targets from.end) = exit_among (value_of sig locals) from.end n (ap (exit_of (value_of sig locals)) (sym ends) ∙ leads) in
+          let some : 1 ≤ times n (successors from.end) = exit_among (value_of sig locals) from.end n (ap (exit_of (value_of sig locals)) (sym ends) ∙ leads) in
           let here : ReachedAt f from = first_reached f b.block from e ((are b.block).0 r) in
           let next : reached n ≡ true = (are n).1 (next_reached f from y n here some at_n) in
           let number : y.number ≡ n = number_found f.blocks n y at_n in (

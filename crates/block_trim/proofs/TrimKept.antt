@@ -3,7 +3,7 @@ use Rattle.std.proofs.Common.{◌≡◌, ℕ, zero, suc, ◌+◌, ◌≤◌, ◌
 use Rattle.std.specs.Prelude.{slice_get, flat_map, take}
 use Rattle.std.proofs.lemmas.Bool.{and_from, and_parts, eqb-true, ne_eqb, or_cases, or_left, or_right}
 use Rattle.std.proofs.lemmas.Option.{slice_get_within}
-use Rattle.ir_tree.specs.Flow.{AtEnds, Available, AvailableAt, AvailableAtEnd, IsJustified, Justified, Path, Reachable, availability, defined_before, defined_in, definitions, edges, entry_row, holds, line_count, locals, parameters, phi_locals, results, room, targets}
+use Rattle.ir_tree.specs.Flow.{AtEnds, Available, AvailableAt, AvailableAtEnd, IsJustified, Justified, Path, Reachable, availability, defined_before, defined_in, definitions, edges, entry_row, holds, line_count, locals, parameters, phi_locals, results, room, successors}
 use Rattle.ir_tree.specs.Formed.{Distinct, Formed, numbers}
 use Rattle.ir_tree.specs.Rules.{place}
 use Rattle.ir_tree.specs.declared.block.Block.{Block}
@@ -171,8 +171,8 @@ module _ (f : Function) (reached : ℕ → Bool) (are : AreReached f reached) (f
           where
             leads : 1 ≤ times p (edges f i)
             leads =
-                let now : times q (edges g j) ≡ times b.number (targets a.end) = many ∙ ap (out_to b.number) from.new in
-                let then' : times p (edges f i) ≡ times b.number (targets a.end) = edges_from f i b k.old p ∙ ap (out_to b.number) from.old in
+                let now : times q (edges g j) ≡ times b.number (successors a.end) = many ∙ ap (out_to b.number) from.new in
+                let then' : times p (edges f i) ≡ times b.number (successors a.end) = edges_from f i b k.old p ∙ ap (out_to b.number) from.old in
                 omega (arith, now, then', some)
 
             at : (rows p x ≡ true) ⊎ (defined_in (slice_get f.blocks p) x ≡ true) → (marks rows q x || defined_in (slice_get g.blocks q) x) ≡ true

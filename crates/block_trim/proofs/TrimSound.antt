@@ -5,7 +5,7 @@ use Rattle.std.proofs.lemmas.Bool.{eqb-true, ne_eqb}
 use Rattle.std.proofs.lemmas.List.Elements.{All-append, All-cons, All-head, All-map, All-nil, All-tail, All-weaker}
 use Rattle.std.proofs.lemmas.List.Recursion.{is_count_by}
 use Rattle.std.proofs.lemmas.Option.{slice_get-map}
-use Rattle.ir_tree.specs.Flow.{definitions, edges, holds, locals, parameters, targets}
+use Rattle.ir_tree.specs.Flow.{definitions, edges, holds, locals, parameters, successors}
 use Rattle.ir_tree.specs.Formed.{ArgumentFormed, IsBlock, ItemFormed, OperandFormed, numbers}
 use Rattle.ir_tree.specs.Items.{Item, phi_item, line_item, end_item, block_items, end_reads, items, items_from, lines_from, phi_reads, reads, typed}
 use Rattle.ir_tree.specs.Rules.{EndTypes, HasType, IsNoPhi, IsThere, IsThereAtEnd, Keeps as KeepsRule, OnEdges, Sound, Typing, block_typings, place, type_of}
@@ -133,12 +133,12 @@ module _ (f : Function) (reached : ℕ → Bool) (are : AreReached f reached) (s
       by (r, at) = from r (slice_get f.blocks r) refl at
 
   -- a block to which one that stays leads is reached
-  target_reached : (i j : ℕ) (b : Block) → Stays i j b → (n : ℕ) → IsBlock f n → 1 ≤ times n (targets b.end) → reached n ≡ true
+  target_reached : (i j : ℕ) (b : Block) → Stays i j b → (n : ℕ) → IsBlock f n → 1 ≤ times n (successors b.end) → reached n ≡ true
   target_reached i j b k n block some = by (block_of n block)
     where
       by : (r : ℕ) × (z : Block) × (slice_get f.blocks r ≡ Some z) × (z.number ≡ n) → reached n ≡ true
       by (r, z, at, number) =
-          let many : times i (edges f r) ≡ times n (targets b.end) = edges_from f r z at i ∙ ap (out_to z.number) k.old ∙ ap (λ (m : ℕ). times m (targets b.end)) number in
+          let many : times i (edges f r) ≡ times n (successors b.end) = edges_from f r z at i ∙ ap (out_to z.number) k.old ∙ ap (λ (m : ℕ). times m (successors b.end)) number in
           (are n).1 (r, z, at, number, (i ∷ k.path.0, (among_times i (edges f r) (omega (arith, many, some)), k.path.1)))
 
   -- ---- entries of phis
@@ -292,7 +292,7 @@ module _ (f : Function) (reached : ℕ → Bool) (are : AreReached f reached) (s
     record {
       operands = All-weaker (Given (IsThereAtEnd g j)) (ArgumentFormed g) (λ a t. t.0) (end_reads b.end) all_read;
       sources = All-nil (λ e. IsBlock g e.from);
-      kind = (h.0.kind.0, all_of_times (IsBlock g) (targets b.end) (λ n some. named_there n (target_reached i j b k n (all_among (IsBlock f) n (targets b.end) h.0.kind.1 some) some)));
+      kind = (h.0.kind.0, all_of_times (IsBlock g) (successors b.end) (λ n some. named_there n (target_reached i j b k n (all_among (IsBlock f) n (successors b.end) h.0.kind.1 some) some)));
     },
     keeps,
   )
@@ -302,22 +302,22 @@ module _ (f : Function) (reached : ℕ → Bool) (are : AreReached f reached) (s
           all_given (IsThereAtEnd f i) (IsThereAtEnd g j) (end_ok i j b k) (end_reads b.end)
           (asked (IsThereAtEnd f i) (end_reads b.end) h.0.operands (h.1 TypeMismatch).0 (h.1 NotAvailable).0)
 
-      leaves : (n : ℕ) → 1 ≤ times n (targets b.end) → place g.blocks n ≡ 0 → ⊥
-      leaves n some here = by (named_kept n (target_reached i j b k n (all_among (IsBlock f) n (targets b.end) h.0.kind.1 some) some))
+      leaves : (n : ℕ) → 1 ≤ times n (successors b.end) → place g.blocks n ≡ 0 → ⊥
+      leaves n some here = by (named_kept n (target_reached i j b k n (all_among (IsBlock f) n (successors b.end) h.0.kind.1 some) some))
         where
           by : (p : ℕ) × (q : ℕ) × (a : Block) × (a.number ≡ n) × Stays p q a → ⊥
           by (p, q, a, number, moved) =
               let old : place f.blocks n ≡ p = ap (place f.blocks) (sym number) ∙ old_place f reached are sound.formed p q a moved in
               let new : q ≡ 0 = sym (ap (place g.blocks) (sym number) ∙ new_place f reached are sound.formed p q a moved) ∙ here in
               let first : p ≡ 0 = eqb-true p 0 (same_entry f reached are sound.formed p q a moved ∙ ap (λ (m : ℕ). nat_eq m 0) new) in
-              all_among (λ n. place f.blocks n ≡ 0 → ⊥) n (targets b.end) (h.1 EntryBranch) some (old ∙ first)
+              all_among (λ n. place f.blocks n ≡ 0 → ⊥) n (successors b.end) (h.1 EntryBranch) some (old ∙ first)
 
       keeps : (rule : Rule) → KeepsRule g rule (end_item j b.end)
       keeps TypeMismatch = (All-weaker (Given (IsThereAtEnd g j)) (HasType g) (λ a t. t.1.0) (end_reads b.end) all_read, end_types b.end (h.1 TypeMismatch).1)
       keeps NotAvailable = (All-weaker (Given (IsThereAtEnd g j)) (λ a. IsThereAtEnd g j a.operand) (λ a t. t.1.1) (end_reads b.end) all_read, All-nil (λ e. IsThereAtEnd g (place g.blocks e.from) e.value))
       keeps PhiEdges = tt
       keeps PhiPlace = tt
-      keeps EntryBranch = all_of_times (λ n. place g.blocks n ≡ 0 → ⊥) (targets b.end) leaves
+      keeps EntryBranch = all_of_times (λ n. place g.blocks n ≡ 0 → ⊥) (successors b.end) leaves
       keeps Index = tt
       keeps Cast = tt
       keeps CaseTwice = h.1 CaseTwice

@@ -2,7 +2,7 @@
 use Rattle.std.proofs.Common.{◌≡◌, ℕ, zero, suc, ◌+◌, nat_eq, Bool, true, false, List, [], ◌∷◌, ◌++◌, length, Option, Some, None, refl, sym, ◌∙◌, ap, arith, if◌then◌else◌, length-append}
 use Rattle.std.specs.Prelude.{slice_get}
 use Rattle.std.proofs.lemmas.Bool.{eq-eqb, eqb-true}
-use Rattle.ir_tree.specs.Flow.{leading, repeated, targets}
+use Rattle.ir_tree.specs.Flow.{leading, repeated, successors}
 use Rattle.ir_tree.specs.Formed.{Distinct}
 use Rattle.ir_tree.specs.declared.block.Block.{Block}
 use Rattle.ir_meaning.proofs.Counting.{distinct_rest, not_again, number_at, numbers_in}
@@ -62,7 +62,7 @@ weigh_changed w v x h (b ∷ bs) d is = by (nat_eq x b.number) refl is (weigh_ch
 
 abbrev pub out_of : ℕ → Option Content → ℕ
 out_of n None = 0
-out_of n (Some c) = counted n (targets c.end) 0
+out_of n (Some c) = counted n (successors c.end) 0
 
 pub leading_left : (name : ℕ → ℕ) (contents : ℕ → Option Content) (n p : ℕ) (bs : List Block) → length (leading n p (blocks_of name contents bs)) ≡ weigh (λ m. out_of n (contents m)) bs
 leading_left name contents n p [] = refl
@@ -73,7 +73,7 @@ leading_left name contents n p (b ∷ bs) = by (contents b.number) (λ q. leadin
     by None h = let e : length (leading n p (blocks_of name contents bs)) ≡ weigh (λ m. out_of n (contents m)) bs = h p in omega (arith, e)
     by (Some c) h =
         let rest : length (leading n (suc p) (blocks_of name contents bs)) ≡ weigh (λ m. out_of n (contents m)) bs = h (suc p) in
-        let first : counted n (targets c.end) 0 ≡ 0 + length (repeated p n (targets c.end)) = counted_is n p (targets c.end) 0 in
-        let both : length (repeated p n (targets c.end) ++ leading n (suc p) (blocks_of name contents bs)) ≡ length (repeated p n (targets c.end)) + length (leading n (suc p) (blocks_of name contents bs)) =
-        length-append (repeated p n (targets c.end)) (leading n (suc p) (blocks_of name contents bs)) in
+        let first : counted n (successors c.end) 0 ≡ 0 + length (repeated p n (successors c.end)) = counted_is n p (successors c.end) 0 in
+        let both : length (repeated p n (successors c.end) ++ leading n (suc p) (blocks_of name contents bs)) ≡ length (repeated p n (successors c.end)) + length (leading n (suc p) (blocks_of name contents bs)) =
+        length-append (repeated p n (successors c.end)) (leading n (suc p) (blocks_of name contents bs)) in
         omega (arith, rest, first, both)

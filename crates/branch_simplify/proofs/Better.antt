@@ -3,7 +3,7 @@ use Rattle.std.proofs.Common.{◌≡◌, ℕ, zero, suc, ◌+◌, ◌≤◌, ◌
 use Rattle.std.specs.Prelude.{All, nat_le, nat_lt, ◌^◌, slice_get}
 use Rattle.std.proofs.lemmas.Bool.{eqb-true, eq-eqb, leb-false}
 use Rattle.std.proofs.lemmas.List.Elements.{All-head, All-tail}
-use Rattle.ir_tree.specs.Flow.{targets}
+use Rattle.ir_tree.specs.Flow.{successors}
 use Rattle.ir_tree.specs.Formed.{Distinct}
 use Rattle.ir_tree.specs.Items.{phi_item}
 use Rattle.ir_tree.specs.Rules.{Keeps, OnEdges, Sound}
@@ -134,15 +134,15 @@ module _ (f : Function) (sound : Sound f) where
 
   -- the phis of a block take the same on an edge that stays
   phis_alike : (sig : Signature) (locals : Locals) (i j : ℕ) (from y : Block) → slice_get f.blocks i ≡ Some from → slice_get f.blocks j ≡ Some y
-      → 1 ≤ times y.number (targets (straight from.end)) → (ps : List Phi) → All (Keeps f PhiEdges) (map (phi_item j) ps)
+      → 1 ≤ times y.number (successors (straight from.end)) → (ps : List Phi) → All (Keeps f PhiEdges) (map (phi_item j) ps)
       → phis_bound sig locals from.number (map (phi_left (λ n. times n (lost_into y.number f.blocks))) ps) locals ≡ phis_bound sig locals from.number ps locals
   phis_alike sig locals i j from y at_i at_j stays [] h = refl
   phis_alike sig locals i j from y at_i at_j stays (p ∷ ps) h =
       let edges : OnEdges f j p.incoming = All-head (Keeps f PhiEdges) (phi_item j p) (map (phi_item j) ps) h in
       let d : Distinct (numbers_in f.blocks) = apart f sound.formed in
-      let many : times from.number (sources p.incoming) ≡ times y.number (targets from.end) = entries_of f d j y at_j i from at_i p.incoming edges in
+      let many : times from.number (sources p.incoming) ≡ times y.number (successors from.end) = entries_of f d j y at_j i from at_i p.incoming edges in
       let gone : times from.number (lost_into y.number f.blocks) ≡ times y.number (lost from.end) = lost_from y.number f.blocks d i from at_i in
-      let all : times y.number (targets (straight from.end)) + times y.number (lost from.end) ≡ times y.number (targets from.end) = edges_stay y.number from.end in
+      let all : times y.number (successors (straight from.end)) + times y.number (lost from.end) ≡ times y.number (successors from.end) = edges_stay y.number from.end in
       let lt : times from.number (lost_into y.number f.blocks) < times from.number (sources p.incoming) = omega (arith, many, gone, all, stays) in
       (λ k.
       (p.local, first_stays sig locals (λ n. times n (lost_into y.number f.blocks)) from.number p.incoming lt k)
@@ -169,9 +169,9 @@ module _ (f : Function) (sound : Sound f) where
           let ends : b.end ≡ from.end = second_end ∙ ap end_of e in
           let place : (i : ℕ) × (slice_get f.blocks i ≡ Some from) = found_at f.blocks b.block from e in
           let other : (j : ℕ) × (slice_get f.blocks j ≡ Some y) = found_at f.blocks n y at_n in
-          let some : 1 ≤ times n (targets a.end) = exit_among (value_of sig locals) a.end n (alike ∙ leads) in
-          let stays : 1 ≤ times y.number (targets (straight from.end)) =
-          subst (λ (m : ℕ). 1 ≤ times m (targets (straight from.end))) (sym number) (subst (λ (t : Terminator). 1 ≤ times n (targets t)) (first_end ∙ ap straight ends) some) in (
+          let some : 1 ≤ times n (successors a.end) = exit_among (value_of sig locals) a.end n (alike ∙ leads) in
+          let stays : 1 ≤ times y.number (successors (straight from.end)) =
+          subst (λ (m : ℕ). 1 ≤ times m (successors (straight from.end))) (sym number) (subst (λ (t : Terminator). 1 ≤ times n (successors t)) (first_end ∙ ap straight ends) some) in (
             step f y,
             found_step f.blocks n ∙ ap (option_map (step f)) at_n,
             ap (λ (m : ℕ). phis_bound sig locals m (step f y).phis locals) (same ∙ sym from_number)

@@ -2,7 +2,7 @@
 use Rattle.std.proofs.Common.{◌≡◌, ℕ, zero, suc, ◌+◌, ◌≤◌, nat_eq, Bool, true, false, List, [], ◌∷◌, Option, Some, None, map, refl, sym, ◌∙◌, ap, subst, arith, if◌then◌else◌}
 use Rattle.std.specs.Prelude.{slice_get}
 use Rattle.std.proofs.lemmas.Bool.{eqb-true, eq-eqb, ne_eqb}
-use Rattle.ir_tree.specs.Flow.{repeated, targets}
+use Rattle.ir_tree.specs.Flow.{repeated, successors}
 use Rattle.ir_tree.specs.Formed.{Distinct}
 use Rattle.ir_tree.specs.declared.block.Block.{Block}
 use Rattle.ir_tree.specs.declared.block.Case.{Case}
@@ -61,7 +61,7 @@ switch_to_among (Some bits) default d cs e = subst (λ (n : ℕ). 1 ≤ times n 
 switch_to_among None default d [] e = here d default [] (cc e)
 switch_to_among None default d (c ∷ cs) e = absurd cc
 
-pub decided_among : (t : Terminator) (d : ℕ) → decided t ≡ Some d → 1 ≤ times d (targets t)
+pub decided_among : (t : Terminator) (d : ℕ) → decided t ≡ Some d → 1 ≤ times d (successors t)
 decided_among (Return argument) d e = absurd cc
 decided_among (Jump target) d e = absurd cc
 decided_among (Branch condition if_true if_false) d e = branch_among (constant condition) if_true if_false d e
@@ -87,9 +87,9 @@ one_taken m d (t ∷ ts) h = by (nat_eq t d) refl h (one_taken m d ts)
     by false e h more = last (nat_eq t m) true (more h)
 
 -- the edges that stay and those that are lost are all
-pub edges_stay : (m : ℕ) (t : Terminator) → times m (targets (straight t)) + times m (lost t) ≡ times m (targets t)
+pub edges_stay : (m : ℕ) (t : Terminator) → times m (successors (straight t)) + times m (lost t) ≡ times m (successors t)
 edges_stay m t = by (decided t) refl
   where
-    by : (o : Option ℕ) → decided t ≡ o → times m (targets (jump_or o t)) + times m (all_but_one o (targets t)) ≡ times m (targets t)
+    by : (o : Option ℕ) → decided t ≡ o → times m (successors (jump_or o t)) + times m (all_but_one o (successors t)) ≡ times m (successors t)
     by None e = omega arith
-    by (Some d) e = one_taken m d (targets t) (decided_among t d e)
+    by (Some d) e = one_taken m d (successors t) (decided_among t d e)

@@ -4,7 +4,7 @@ use Rattle.std.specs.Prelude.{slice_get, flat_map, filter_map, take}
 use Rattle.std.proofs.lemmas.Bool.{eqb-true}
 use Rattle.std.proofs.lemmas.List.{length-map}
 use Rattle.std.proofs.lemmas.Option.{slice_get-map}
-use Rattle.ir_tree.specs.Flow.{AtEnds, Available, AvailableAt, AvailableAtEnd, IsJustified, Justified, availability, defined_before, defined_in, definitions, edges, entry_row, holds, leading_to, line_count, locals, parameters, phi_locals, results, room, targets}
+use Rattle.ir_tree.specs.Flow.{AtEnds, Available, AvailableAt, AvailableAtEnd, IsJustified, Justified, availability, defined_before, defined_in, definitions, edges, entry_row, holds, leading_to, line_count, locals, parameters, phi_locals, results, room, successors}
 use Rattle.ir_tree.specs.Formed.{numbers}
 use Rattle.ir_tree.specs.Rules.{Typing, block_typings, line_typing, place, type_of, typing, typings}
 use Rattle.ir_tree.specs.declared.block.Block.{Block}
@@ -82,7 +82,7 @@ module _ (f : Function) where
 
   out_less : (m : ℕ) (o : Option Block) → out_to m (option_map step o) ≤ out_to m o
   out_less m None = omega arith
-  out_less m (Some b) = let all : times m (targets (straight b.end)) + times m (lost b.end) ≡ times m (targets b.end) = edges_stay m b.end in omega (arith, all)
+  out_less m (Some b) = let all : times m (successors (straight b.end)) + times m (lost b.end) ≡ times m (successors b.end) = edges_stay m b.end in omega (arith, all)
 
   pub edges_less : (b i : ℕ) → times i (edges (simplified f) b) ≤ times i (edges f b)
   edges_less b i = by (slice_get f.blocks b) refl

@@ -2,7 +2,7 @@
 use Rattle.std.proofs.Common.{◌≡◌, ℕ, Bool, true, not, List, [], ◌∷◌, ◌++◌, Option, Some, None, map, refl, sym, ◌∙◌, ap, arith, if◌then◌else◌}
 use Rattle.std.specs.Prelude.{is_some}
 use Rattle.std.proofs.lemmas.Bool.{and_parts, le-leb}
-use Rattle.ir_tree.specs.Flow.{repeated, targets}
+use Rattle.ir_tree.specs.Flow.{repeated, successors}
 use Rattle.ir_tree.specs.declared.block.Block.{Block}
 use Rattle.ir_tree.specs.declared.function.Function.{Function}
 use Rattle.ir_tree.specs.declared.instr.Incoming.{Incoming}
@@ -30,7 +30,7 @@ none_lost [] m h = refl
 none_lost (b ∷ bs) m h = by (and_parts (not (is_some (decided b.end))) (ends_stay bs) h) (none_lost bs m)
   where
     by : (not (is_some (decided b.end)) ≡ true) × (ends_stay bs ≡ true) → (ends_stay bs ≡ true → lost_into m bs ≡ []) → lost_into m (b ∷ bs) ≡ []
-    by (stays, rest) more = λ i. repeated b.number m (all_but_one (undecided (decided b.end) stays i) (targets b.end)) ++ more rest i
+    by (stays, rest) more = λ i. repeated b.number m (all_but_one (undecided (decided b.end) stays i) (successors b.end)) ++ more rest i
 
 block_same : (b : Block) → not (is_some (decided b.end)) ≡ true → simplified_block (λ m. []) b ≡ b
 block_same b h = λ i. record b { phis = phis_same b.phis i; end = jump_or (undecided (decided b.end) h i) b.end }

@@ -2,7 +2,7 @@
 use Rattle.std.proofs.Common.{◌≡◌, ℕ, suc, ◌+◌, ◌-◌, ◌≤◌, nat_eq, List, [], ◌∷◌, ◌++◌, Option, Some, None, map, option_map, refl, sym, ◌∙◌, ap, subst, arith}
 use Rattle.std.specs.Prelude.{All, count_by, slice_get}
 use Rattle.std.proofs.lemmas.List.Elements.{All-append, All-cons, All-head, All-nil, All-tail, All-weaker}
-use Rattle.ir_tree.specs.Flow.{edges, holds, locals, targets}
+use Rattle.ir_tree.specs.Flow.{edges, holds, locals, successors}
 use Rattle.ir_tree.specs.Formed.{ArgumentFormed, CasesFormed, Distinct, Formed, IsBlock, ItemFormed, OperandFormed, numbers}
 use Rattle.ir_tree.specs.Items.{Item, phi_item, line_item, end_item, block_items, end_reads, entries, items, items_from, lines_from, phi_reads, reads, taken_as, typed}
 use Rattle.ir_tree.specs.Rules.{EndDiffers, EndTypes, EntriesThere, HasType, IsNoPhi, IsThere, IsThereAtEnd, Keeps, OnEdges, Sound, StandsRight, place}
@@ -40,8 +40,8 @@ either P t stays jumps = by (decided t) refl
     by None e = stays
     by (Some d) e = jumps d e
 
-straight_targets : (P : ℕ → Type 0) (t : Terminator) → All P (targets t) → All P (targets (straight t))
-straight_targets P t h = either (λ u. All P (targets u)) t h (λ d e. All-cons P d [] (all_among P d (targets t) h (decided_among t d e)) (All-nil P))
+straight_targets : (P : ℕ → Type 0) (t : Terminator) → All P (successors t) → All P (successors (straight t))
+straight_targets P t h = either (λ u. All P (successors u)) t h (λ d e. All-cons P d [] (all_among P d (successors t) h (decided_among t d e)) (All-nil P))
 
 straight_reads : (P : Argument → Type 0) (t : Terminator) → All P (end_reads t) → All P (end_reads (straight t))
 straight_reads P t h = either (λ u. All P (end_reads u)) t h (λ d e. All-nil P)
@@ -127,7 +127,7 @@ module _ (f : Function) where
       sources = All-nil (λ e. IsBlock (simplified f) e.from);
       kind = (
         either CasesFormed t h.kind.0 (λ d e. tt),
-        straight_targets (IsBlock (simplified f)) t (All-weaker (IsBlock f) (IsBlock (simplified f)) block_there (targets t) h.kind.1),
+        straight_targets (IsBlock (simplified f)) t (All-weaker (IsBlock f) (IsBlock (simplified f)) block_there (successors t) h.kind.1),
       );
     };
   }
@@ -265,7 +265,7 @@ module _ (f : Function) where
     end_keeps PhiPlace b t h = tt
     end_keeps EntryBranch b t h =
         straight_targets (λ n. place (simplified f).blocks n ≡ 0 → ⊥) t
-        (All-weaker (λ n. place f.blocks n ≡ 0 → ⊥) (λ n. place (simplified f).blocks n ≡ 0 → ⊥) (λ n away there. away (sym (place_stays f.blocks f.blocks n) ∙ there)) (targets t) h.1)
+        (All-weaker (λ n. place f.blocks n ≡ 0 → ⊥) (λ n. place (simplified f).blocks n ≡ 0 → ⊥) (λ n away there. away (sym (place_stays f.blocks f.blocks n) ∙ there)) (successors t) h.1)
     end_keeps Index b t h = tt
     end_keeps Cast b t h = tt
     end_keeps CaseTwice b t h = either EndDiffers t h.1 (λ d e. tt)

@@ -1,6 +1,6 @@
 -- The one block to which a terminator leads, whatever happens before it, and the edges that are lost as it becomes a jump there.
 use Rattle.std.specs.Prelude.{ℕ, nat_eq, if◌then◌else◌, List, [], ◌∷◌, Option, Some, None}
-use Rattle.ir_tree.specs.Flow.{targets}
+use Rattle.ir_tree.specs.Flow.{successors}
 use Rattle.ir_tree.specs.declared.block.Case.{Case}
 use Rattle.ir_tree.specs.declared.block.Terminator.{Terminator}
 use Rattle.ir_tree.specs.declared.block.Terminator.TheVariants.{Branch, Jump, Return, Switch, Unreachable}
@@ -22,7 +22,7 @@ switch_target (Some bits) default cases = Some (case_target cases default bits)
 switch_target None default [] = Some default
 switch_target None default (c ∷ cs) = None
 
--- the block to which a `br` or a `switch` leads where its operand is a constant, its targets are one block, or it has no cases
+-- the block to which a `br` or a `switch` leads where its operand is a constant, its successors are one block, or it has no cases
 abbrev pub decided : Terminator → Option ℕ
 decided (Return argument) = None
 decided (Jump target) = None
@@ -48,6 +48,6 @@ abbrev pub all_but_one : Option ℕ → List ℕ → List ℕ
 all_but_one None ts = []
 all_but_one (Some n) ts = without_first n ts
 
--- the targets of the edges that a terminator loses: one edge of a decided one stays
+-- the successors of the edges that a terminator loses: one edge of a decided one stays
 abbrev pub lost : Terminator → List ℕ
-lost t = all_but_one (decided t) (targets t)
+lost t = all_but_one (decided t) (successors t)

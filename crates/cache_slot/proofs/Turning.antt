@@ -7,7 +7,7 @@ use Rattle.std.proofs.lemmas.List.{append-nil}
 use mathlib.Core.List.{IsPrefix}
 use Rattle.cache_slot.proofs.Prefixes.{prefix_trans}
 use Rattle.lto_outside.specs.DiskStore.{DiskStore}
-use Rattle.cache_slot.specs.declared.kept.Cause.TheVariants.{Disk}
+use Rattle.cache_slot.specs.declared.kept.SkipCause.TheVariants.{Disk}
 use Rattle.cache_slot.specs.declared.kept.Kept.{Kept}
 use Rattle.cache_slot.specs.declared.kept.Kept.TheVariants.{New, Already, Skipped}
 use Rattle.cache_slot.specs.declared.record.Record.{Record}

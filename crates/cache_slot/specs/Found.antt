@@ -7,7 +7,7 @@ use Rattle.cache_slot.specs.declared.record.Record.{Record}
 use Rattle.cache_slot.specs.declared.record.Record.TheVariants.{Entry, Again, Hit, Miss}
 use Rattle.cache_slot.specs.declared.record.Why.{Why}
 use Rattle.cache_slot.specs.declared.record.Why.TheVariants.{NoDirectory, Lacking, Fault}
-use Rattle.cache_slot.specs.declared.kept.Cause.TheVariants.{Disk}
+use Rattle.cache_slot.specs.declared.kept.SkipCause.TheVariants.{Disk}
 use Rattle.cache_slot.specs.declared.kept.Kept.{Kept}
 use Rattle.cache_slot.specs.declared.kept.Kept.TheVariants.{New, Already, Skipped}
 use Rattle.cache_slot.specs.Files.{file_of, bytes_of, Holds, Lacks}
@@ -37,11 +37,11 @@ LoadedAs held faults faults_now dir key (Err Lacking) = Lacks held (Some dir) ke
 LoadedAs held faults faults_now dir key (Err Fault) = Rose faults faults_now
 
 -- the same as `FoundOn`, of a caller who doesn't see the disk
-abbrev pub Found : Option (List ℕ) → List Record → List ℕ → Finding → Type 0
-Found dir before key (Ok text) = (text_of key before ≡ Some text) ⊎ ((text_of key before ≡ None) × (dir ≢ None))
-Found dir before key (Err NoDirectory) = (text_of key before ≡ None) × (dir ≡ None)
-Found dir before key (Err Lacking) = (text_of key before ≡ None) × (dir ≢ None)
-Found dir before key (Err Fault) = (text_of key before ≡ None) × (dir ≢ None)
+abbrev pub Finds : Option (List ℕ) → List Record → List ℕ → Finding → Type 0
+Finds dir before key (Ok text) = (text_of key before ≡ Some text) ⊎ ((text_of key before ≡ None) × (dir ≢ None))
+Finds dir before key (Err NoDirectory) = (text_of key before ≡ None) × (dir ≡ None)
+Finds dir before key (Err Lacking) = (text_of key before ≡ None) × (dir ≢ None)
+Finds dir before key (Err Fault) = (text_of key before ≡ None) × (dir ≢ None)
 
 -- the record of a look-up
 abbrev pub record_of : List ℕ → Finding → Record
@@ -54,7 +54,7 @@ LookedOn held faults faults_now dir key before after answer =
     (found : Finding) × FoundOn held faults faults_now dir before key found × (after ≡ before ++ record_of key found ∷ []) × (answer ≡ result_ok found)
 
 abbrev pub Looked : Option (List ℕ) → List ℕ → List Record → List Record → Option (List ℕ) → Type 0
-Looked dir key before after answer = (found : Finding) × Found dir before key found × (after ≡ before ++ record_of key found ∷ []) × (answer ≡ result_ok found)
+Looked dir key before after answer = (found : Finding) × Finds dir before key found × (after ≡ before ++ record_of key found ∷ []) × (answer ≡ result_ok found)
 
 -- the pair was saved in the directory, or the save failed; without a directory nothing was done
 abbrev pub SavedOn : Option DiskStore → Option DiskStore → ℕ → ℕ → Option (List ℕ) → List ℕ → List ℕ → (failed : Bool) → Type 0

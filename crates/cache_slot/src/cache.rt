@@ -4,7 +4,7 @@ ghost use Rattle.cache_slot.specs.declared.sight.Stage.TheVariants.{Out};
 
 use crate::kept::Kept;
 use crate::lock::TicketLock;
-use crate::place::Place;
+use crate::place::TurnHandle;
 use crate::record::Record;
 use crate::setting::Setting;
 use crate::shelf::Shelf;
@@ -21,11 +21,11 @@ pub struct SharedCache<D: CacheDisk, S: Setting> {
     lock: TicketLock<Shelf<D, S>, Record>,
 }
 
-/// The right of one caller to use the cache, and what it has seen of the history: the list as it was at its last turn,
+/// A handle: the right of one caller to use the cache, and what it has seen of the history: the list as it was at its last turn,
 /// which stands in contracts alone.
 #[derive(Drop)]
 pub struct CachePass<D: CacheDisk, S: Setting> {
-    place: Place<Shelf<D, S>, Record>,
+    place: TurnHandle<Shelf<D, S>, Record>,
     ghost idle: { (place.seat.me.0.stage ≡ Out) × (place.seat.me.1 ≡ []) },
 }
 

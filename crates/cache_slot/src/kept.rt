@@ -8,12 +8,12 @@ pub enum Kept {
     /// An entry has the key.
     Already,
     /// It is an entry now, and wasn't saved.
-    Skipped(Cause),
+    Skipped(SkipCause),
 }
 
 /// Why an entry wasn't saved.
 #[derive(Clone, Copy, PartialEq, Eq)]
-pub enum Cause {
+pub enum SkipCause {
     /// The disk failed.
     Disk,
 }

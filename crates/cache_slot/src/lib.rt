@@ -44,10 +44,10 @@ mod sight;
 
 pub use cache::{CachePass, Refused, SharedCache};
 pub use entry::{decode, encode, has_no_proper_prefix, reads_one_way};
-pub use kept::{Cause, Kept};
+pub use kept::{Kept, SkipCause};
 pub use lock::TicketLock;
 pub use naming::file_name;
-pub use place::Place;
+pub use place::TurnHandle;
 pub use record::{Record, Why};
 pub use rule::Logged;
 pub use setting::Setting;

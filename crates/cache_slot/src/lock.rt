@@ -7,14 +7,14 @@
 //! since each waits for a number of its own.
 //!
 //! The value has a list of records ([`Logged`]), its history, to which a turn adds at the end and never else. Each
-//! [`Place`] knows how many turns it has left, how its last turn found the history, and how it left it: what it has *seen*.
+//! [`TurnHandle`] knows how many turns it has left, how its last turn found the history, and how it left it: what it has *seen*.
 //! In every interleaving of all calls one caller at a time has the value; what a place has seen begins the history, so of
 //! any two places the one has seen a beginning of what the other has; and the history begins with it when the lock is
 //! closed.
 ghost use Rattle.std.specs.Prelude.{◌≡◌, ℕ, ◌+◌, ◌^◌, ◌<◌, ◌++◌, [], List, length, IfOk, IfErr};
 ghost use mathlib.Core.List.{IsPrefix};
 
-use crate::place::Place;
+use crate::place::TurnHandle;
 use crate::rule::{Await, Count, Draw, Logged, Meet, Serve, Sights, Turns};
 use crate::sight::Sight;
 use atomic_table::{Refused, Table};
@@ -54,7 +54,7 @@ impl<T: Logged<R>, R> TicketLock<T, R> {
 
     /// A lock round the value, whose history is empty, and its first place. The value comes back where there is no
     /// memory.
-    pub fn new(alloc: Global, value: T) -> Result<(TicketLock<T, R>, Place<T, R>), T>
+    pub fn new(alloc: Global, value: T) -> Result<(TicketLock<T, R>, TurnHandle<T, R>), T>
         requires { T.log value ≡ [] }
         ensures ok { IfOk result (λ r. IsOut r.0.table.shared.table_id r.1.seat × (r.1.seat.me.0 ≡ opening_sight)) }
         ensures err { IfErr result (λ x. x ≡ value) }
@@ -67,7 +67,7 @@ impl<T: Logged<R>, R> TicketLock<T, R> {
         match Table::new(alloc, &[0, 0, 0], slots, &()) {
             Ok((table, seat)) => Ok((
                 TicketLock { table },
-                Place {
+                TurnHandle {
                     seat,
                     left: ALL_TURNS,
                 },
@@ -83,7 +83,7 @@ impl<T: Logged<R>, R> TicketLock<T, R> {
     /// Waits for a turn, and takes the value out. Its history begins with what the place has seen.
     ///
     /// A place that has no turn left waits for ever.
-    pub fn take<W: Wait>(&self, rt: &W, place: &mut Place<T, R>) -> T
+    pub fn take<W: Wait>(&self, rt: &W, place: &mut TurnHandle<T, R>) -> T
         requires { IsOut self.now.table.shared.table_id place.old.seat }
         ensures place { IsSamePlace place.old.seat place.new.seat }
         ensures taken { (t : ℕ) × (place.new.seat.me ≡ taken place.old.seat.me.0 t (T.log result)) }
@@ -107,7 +107,7 @@ impl<T: Logged<R>, R> TicketLock<T, R> {
     }
 
     /// Puts the value back, to whose history `added` records were added, and ends the turn.
-    pub fn give(&self, place: &mut Place<T, R>, value: T, added: u64)
+    pub fn give(&self, place: &mut TurnHandle<T, R>, value: T, added: u64)
         requires table { IsAt self.now.table.shared.table_id place.old.seat }
         requires turn { (t : ℕ) × (l : List R) × (extra : List R) × IsInside place.old.seat t l × (T.log value ≡ l ++ extra) × (added ≡ length extra) }
         requires small { length (T.log value) < 2 ^ 64 }
@@ -123,7 +123,7 @@ impl<T: Logged<R>, R> TicketLock<T, R> {
     }
 
     /// A new place, which has seen as much, and gets a part of the turns.
-    pub fn split(&self, place: &mut Place<T, R>) -> Place<T, R>
+    pub fn split(&self, place: &mut TurnHandle<T, R>) -> TurnHandle<T, R>
         requires { IsAt self.now.table.shared.table_id place.old.seat }
         ensures place { IsSamePlace place.old.seat place.new.seat × (place.new.seat.me ≡ (left_sight place.old.seat.me.0, place.old.seat.me.1)) }
         ensures new { IsAt self.now.table.shared.table_id result.seat × (result.seat.me ≡ (right_sight place.old.seat.me.0, [])) }
@@ -135,11 +135,11 @@ impl<T: Logged<R>, R> TicketLock<T, R> {
         };
         let seat = self.table.shared.split_seat::<Sights>(&mut place.seat);
         place.left -= left;
-        Place { seat, left }
+        TurnHandle { seat, left }
     }
 
     /// The place takes the other in. What the two have seen begins the longer of the two lists, which it has seen then.
-    pub fn join(&self, place: &mut Place<T, R>, other: Place<T, R>)
+    pub fn join(&self, place: &mut TurnHandle<T, R>, other: TurnHandle<T, R>)
         requires place { IsOut self.now.table.shared.table_id place.old.seat }
         requires other { IsOut self.now.table.shared.table_id other.seat }
         ensures place { IsSamePlace place.old.seat place.new.seat }
@@ -147,7 +147,7 @@ impl<T: Logged<R>, R> TicketLock<T, R> {
         ensures this { IsPrefix (seen_by place.old.seat) (seen_by place.new.seat) }
         ensures that { IsPrefix (seen_by other.seat) (seen_by place.new.seat) }
     {
-        let Place { seat, left } = other;
+        let TurnHandle { seat, left } = other;
         self.table.shared.join_seat::<Sights>(&mut place.seat, seat);
         self.table.shared.load::<Meet>(&mut place.seat, TICKET);
         place.left = place.left.wrapping_add(left);
@@ -158,7 +158,7 @@ impl<T: Logged<R> + Drop, R> TicketLock<T, R> {
     ghost use Rattle.cache_slot.specs.Places.{IsOut, seen_by};
 
     /// Takes a last turn, and hands the value out. Its history begins with what the place has seen.
-    pub fn close<W: Wait>(self, rt: &W, mut place: Place<T, R>) -> T
+    pub fn close<W: Wait>(self, rt: &W, mut place: TurnHandle<T, R>) -> T
         requires { IsOut self.table.shared.table_id place.seat }
         ensures { IsPrefix (seen_by place.seat) (T.log result) }
     {

@@ -9,7 +9,7 @@ use atomic_table::Seat;
 /// At run time it is one number: how many turns it may still take. The first place has 2^63, a new one gets 2^40 of
 /// them, or half where fewer than 2^41 are left. So tickets never come to the end of their 64 bits.
 #[derive(Drop)]
-pub struct Place<T, R> {
+pub struct TurnHandle<T, R> {
     pub seat: Seat<Option<T>, Sight<R>>,
     pub left: u64,
     ghost same: { left ≡ seat.me.0.turns },

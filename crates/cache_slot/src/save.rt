@@ -5,7 +5,7 @@ ghost use Rattle.cache_slot.specs.Files.{bytes_of};
 ghost use Rattle.cache_slot.specs.Found.{SavedOn, kept_of};
 
 use crate::find::name_str;
-use crate::kept::{Cause, Kept};
+use crate::kept::{Kept, SkipCause};
 use crate::{encode, file_name};
 use lto_outside::CacheDisk;
 use std::alloc::{AllocError, Global};
@@ -39,7 +39,7 @@ pub fn kept_of(failed: bool) -> Kept
     ensures { result ≡ kept_of failed }
 {
     if failed {
-        Kept::Skipped(Cause::Disk)
+        Kept::Skipped(SkipCause::Disk)
     } else {
         Kept::New
     }

@@ -27,7 +27,7 @@ pub struct Claims {
     ghost few: { (0 < callers) × (callers ≤ 65) },
 }
 
-/// The right of one caller to draw from a word, and what it has drawn.
+/// A handle: the right of one caller to draw from a word, and what it has drawn.
 ///
 /// At run time it is one flag: whether it has met the end.
 #[derive(Drop)]

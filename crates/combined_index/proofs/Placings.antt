@@ -6,7 +6,7 @@ use Rattle.std.specs.Cmp.{unsigned_Decides, nat_eq_equiv}
 use Rattle.combined_index.specs.Combined.{prevails_for}
 use Rattle.combined_index.specs.Tables.{ArePlaced, IsFound, found}
 use Rattle.combined_index.specs.declared.definition.Definition.{Definition}
-use Rattle.combined_index.specs.declared.places.Place.{Place}
+use Rattle.combined_index.specs.declared.places.DefinitionPlace.{DefinitionPlace}
 
 -- ---- the first that passes
 
@@ -38,7 +38,7 @@ find_passed {X = X} p (a ∷ xs) x h = ap (λ (z : Option X). cond (p a) (Some a
 
 -- ---- one more definition
 
-module _ (modules : List (List Definition)) (before : List Definition) (d : Definition) (places : List (Option Place)) (placed : ArePlaced modules places before) where
+module _ (modules : List (List Definition)) (before : List Definition) (d : Definition) (places : List (Option DefinitionPlace)) (placed : ArePlaced modules places before) where
   passed : (n : ℕ) → prevails_for n d ≡ false → IsFound modules (slice_index_or places n None) (find (prevails_for n) (before ++ d ∷ []))
   passed n h = subst (λ (z : Option Definition). IsFound modules (slice_index_or places n None) z) (sym (find_passed (prevails_for n) before d h)) (placed n)
 
@@ -57,11 +57,11 @@ module _ (modules : List (List Definition)) (before : List Definition) (d : Defi
   apart n h e = let wrong : true ≡ false = sym (ap (nat_eq d.symbol) e ∙ nat_eq_equiv.refl d.symbol) ∙ h in cc
 
   -- the first that prevails for its symbol
-  pub placed_here : (here : Place) → found modules here ≡ Some d → d.prevails ≡ true → d.symbol < length places → is_none (slice_index_or places d.symbol None) ≡ true
+  pub placed_here : (here : DefinitionPlace) → found modules here ≡ Some d → d.prevails ≡ true → d.symbol < length places → is_none (slice_index_or places d.symbol None) ≡ true
       → ArePlaced modules (slice_set places d.symbol (Some here)) (before ++ d ∷ [])
   placed_here here at wins lt free n = by (nat_eq d.symbol n) refl
     where
-      empty : (p : Option Place) → is_none p ≡ true → IsFound modules p (find (prevails_for d.symbol) before) → find (prevails_for d.symbol) before ≡ None
+      empty : (p : Option DefinitionPlace) → is_none p ≡ true → IsFound modules p (find (prevails_for d.symbol) before) → find (prevails_for d.symbol) before ≡ None
       empty None h f = f
       empty (Some p) h f = absurd (no h)
         where
@@ -70,7 +70,7 @@ module _ (modules : List (List Definition)) (before : List Definition) (d : Defi
 
       own : IsFound modules (slice_index_or (slice_set places d.symbol (Some here)) d.symbol None) (find (prevails_for d.symbol) (before ++ d ∷ []))
       own =
-          subst (λ (z : Option Place). IsFound modules z (find (prevails_for d.symbol) (before ++ d ∷ []))) (sym (get_or-set_same places d.symbol (Some here) None lt)) (
+          subst (λ (z : Option DefinitionPlace). IsFound modules z (find (prevails_for d.symbol) (before ++ d ∷ []))) (sym (get_or-set_same places d.symbol (Some here) None lt)) (
             d,
             find_last (prevails_for d.symbol) before d (empty (slice_index_or places d.symbol None) free (placed d.symbol))
                 ∙ ap₂ (λ (a b : Bool). cond (a && b) (Some d) None) wins (nat_eq_equiv.refl d.symbol),
@@ -80,14 +80,14 @@ module _ (modules : List (List Definition)) (before : List Definition) (d : Defi
       by : (b : Bool) → nat_eq d.symbol n ≡ b → IsFound modules (slice_index_or (slice_set places d.symbol (Some here)) n None) (find (prevails_for n) (before ++ d ∷ []))
       by true h = subst (λ (m : ℕ). IsFound modules (slice_index_or (slice_set places d.symbol (Some here)) m None) (find (prevails_for m) (before ++ d ∷ []))) ((unsigned_Decides d.symbol n).0 h) own
       by false h =
-          subst (λ (z : Option Place). IsFound modules z (find (prevails_for n) (before ++ d ∷ []))) (sym (get_or-set_other places d.symbol n (Some here) None (apart n h)))
+          subst (λ (z : Option DefinitionPlace). IsFound modules z (find (prevails_for n) (before ++ d ∷ []))) (sym (get_or-set_other places d.symbol n (Some here) None (apart n h)))
           (passed n (elsewhere n h))
 
   -- another did before
   pub placed_before : is_none (slice_index_or places d.symbol None) ≡ false → ArePlaced modules places (before ++ d ∷ [])
   placed_before taken n = by (nat_eq d.symbol n) refl
     where
-      kept : (p : Option Place) → is_none p ≡ false → IsFound modules p (find (prevails_for d.symbol) before) → IsFound modules p (find (prevails_for d.symbol) (before ++ d ∷ []))
+      kept : (p : Option DefinitionPlace) → is_none p ≡ false → IsFound modules p (find (prevails_for d.symbol) before) → IsFound modules p (find (prevails_for d.symbol) (before ++ d ∷ []))
       kept None h f = absurd (no h)
         where
           no : true ≡ false → ⊥
@@ -103,12 +103,12 @@ module _ (modules : List (List Definition)) (before : List Definition) (d : Defi
   -- the place that is there is written again
   pub placed_again : d.symbol < length places → is_none (slice_index_or places d.symbol None) ≡ false
       → ArePlaced modules (slice_set places d.symbol (slice_index_or places d.symbol None)) (before ++ d ∷ [])
-  placed_again lt taken = subst (λ (z : List (Option Place)). ArePlaced modules z (before ++ d ∷ [])) (sym (again places d.symbol)) (placed_before taken)
+  placed_again lt taken = subst (λ (z : List (Option DefinitionPlace)). ArePlaced modules z (before ++ d ∷ [])) (sym (again places d.symbol)) (placed_before taken)
     where
-      again : (ps : List (Option Place)) (i : ℕ) → slice_set ps i (slice_index_or ps i None) ≡ ps
+      again : (ps : List (Option DefinitionPlace)) (i : ℕ) → slice_set ps i (slice_index_or ps i None) ≡ ps
       again [] i = refl
       again (p ∷ ps) zero = refl
-      again (p ∷ ps) (suc i) = ap (λ (z : List (Option Place)). p ∷ z) (again ps i)
+      again (p ∷ ps) (suc i) = ap (λ (z : List (Option DefinitionPlace)). p ∷ z) (again ps i)
 
 -- ---- the definitions of a module, one after another
 
@@ -116,7 +116,7 @@ pub found_at : (modules : List (List Definition)) (k i : ℕ) (ds : List Definit
     → found modules (record { number = k; index = i }) ≡ Some d
 found_at modules k i ds d is lt at = ap (λ (z : List Definition). slice_get z i) is ∙ slice_get_read ds (length ds) i d refl lt at
 
-pub one_further : (modules : List (List Definition)) (places : List (Option Place)) (before ds : List Definition) (i : ℕ) (d : Definition) → i < length ds → d ≡ slice_index_or ds i d
+pub one_further : (modules : List (List Definition)) (places : List (Option DefinitionPlace)) (before ds : List Definition) (i : ℕ) (d : Definition) → i < length ds → d ≡ slice_index_or ds i d
     → ArePlaced modules places ((before ++ take i ds) ++ d ∷ []) → ArePlaced modules places (before ++ take (i + 1) ds)
 one_further modules places before ds i d lt at =
     subst (ArePlaced modules places)

@@ -3,7 +3,7 @@ ghost use Rattle.std.specs.Prelude.{◌≡◌, ◌<◌, length, option_copied, I
 ghost use Rattle.combined_index.specs.Combined.{Combined, IsIndex, IsWithin, number_of, prevailing_of};
 
 use crate::definition::Definition;
-use crate::places::{Place, places_of};
+use crate::places::{DefinitionPlace, places_of};
 use crate::plain::plain_numbers;
 use indexmap::IndexMap;
 use ir_tree::{Rows, Symbol};
@@ -17,7 +17,7 @@ pub struct Index {
     symbols: Vec<Symbol>,
     modules: Vec<Rows<Definition>>,
     /// Where the definition of each symbol that prevails stands.
-    places: Vec<Option<Place>>,
+    places: Vec<Option<DefinitionPlace>>,
     /// The numbers of the symbols without a home, by name.
     plain: IndexMap<Vec<u8>, u32>,
 }

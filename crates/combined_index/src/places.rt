@@ -10,14 +10,14 @@ use std::alloc::{AllocError, Global};
 
 /// A definition by its module and its place among the definitions of it.
 #[derive(Clone, Copy, Debug, PartialEq, Eq)]
-pub(crate) struct Place {
+pub(crate) struct DefinitionPlace {
     /// The number of the module.
     pub number: usize,
     pub index: usize,
 }
 
 /// Notes where a definition stands, if it is the first that prevails for its symbol.
-fn put(places: &mut [Option<Place>], definition: &Definition, here: Place)
+fn put(places: &mut [Option<DefinitionPlace>], definition: &Definition, here: DefinitionPlace)
     requires { definition.now.symbol < length places.old }
     ensures len { length places.new ≡ length places.old }
     ensures placed { (modules : List (List Definition)) (before : List Definition) → found modules here ≡ Some definition.now → ArePlaced modules places.old before → ArePlaced modules places.new (before ++ definition.now ∷ []) }
@@ -31,13 +31,13 @@ fn put(places: &mut [Option<Place>], definition: &Definition, here: Place)
 }
 
 /// Notes where the definitions of a module stand.
-fn put_all(places: &mut [Option<Place>], number: usize, definitions: &[Definition])
+fn put_all(places: &mut [Option<DefinitionPlace>], number: usize, definitions: &[Definition])
     requires { AreWithin (length places.old) definitions.now }
     ensures len { length places.new ≡ length places.old }
     ensures placed { (modules : List (List Definition)) (before : List Definition) → slice_index_or modules number [] ≡ definitions.now → ArePlaced modules places.old before → ArePlaced modules places.new (before ++ definitions.now) }
 {
     for (index, definition) in definitions.iter().enumerate() {
-        let here = Place { number, index };
+        let here = DefinitionPlace { number, index };
         put(places, definition, here);
     }
 }
@@ -47,7 +47,7 @@ pub(crate) fn places_of(
     alloc: Global,
     symbols: usize,
     modules: &[Rows<Definition>],
-) -> Result<Vec<Option<Place>>, AllocError>
+) -> Result<Vec<Option<DefinitionPlace>>, AllocError>
     requires { All (AreWithin symbols) modules.now }
     ensures { IfOk result (λ places. ArePlaced modules.now places.items (flat_map (λ m. m) modules.now)) }
 {

@@ -3,7 +3,7 @@ use Rattle.std.proofs.Common.{◌≡◌, ℕ, zero, suc, ◌+◌, ◌≤◌, nat
 use Rattle.std.specs.Prelude.{slice_get, flat_map, filter_map}
 use Rattle.std.specs.List.{cons_option}
 use Rattle.std.proofs.lemmas.Bool.Decides.{nat_tests}
-use Rattle.ir_tree.specs.Flow.{definitions, edges, holds, leading, leading_to, locals, parameters, phi_locals, repeated, results, targets}
+use Rattle.ir_tree.specs.Flow.{definitions, edges, holds, leading, leading_to, locals, parameters, phi_locals, repeated, results, successors}
 use Rattle.ir_tree.specs.Formed.{Distinct, numbers}
 use Rattle.ir_tree.specs.Rules.{Typing, block_typings, line_typing, place, result_type, type_of, typing, typings}
 use Rattle.ir_tree.specs.declared.block.Block.{Block}
@@ -107,7 +107,7 @@ module _ (keeps : ℕ → Bool) where
 
   leading_stays : (n p : ℕ) (bs : List Block) → leading n p (needed_blocks keeps bs) ≡ leading n p bs
   leading_stays n p [] = refl
-  leading_stays n p (b ∷ bs) = ap (λ (l : List ℕ). repeated p n (targets b.end) ++ l) (leading_stays n (suc p) bs)
+  leading_stays n p (b ∷ bs) = ap (λ (l : List ℕ). repeated p n (successors b.end) ++ l) (leading_stays n (suc p) bs)
 
   leading_to_stays : (bs : List Block) (o : Option Block) → leading_to (needed_blocks keeps bs) (option_map (needed_block keeps) o) ≡ leading_to bs o
   leading_to_stays bs None = refl

@@ -3,7 +3,7 @@ use Rattle.std.proofs.Common.{◌≡◌, ℕ, suc, ◌+◌, nat_eq, Bool, true, 
 use Rattle.std.specs.Prelude.{All, count_by, slice_get}
 use Rattle.std.proofs.lemmas.List.{get_or_append_left, get_or-append-add}
 use Rattle.std.proofs.lemmas.List.Elements.{All-append, All-cons}
-use Rattle.ir_tree.specs.Flow.{defined_before, holds, phi_locals, results, targets}
+use Rattle.ir_tree.specs.Flow.{defined_before, holds, phi_locals, results, successors}
 use Rattle.ir_tree.specs.Formed.{ArgumentFormed, Formed, IsBlock, ItemFormed, OperandFormed}
 use Rattle.ir_tree.specs.Items.{Item, phi_item, line_item, end_item, block_items, end_reads, entries, items, items_from, lines_from, phi_reads, reads, taken_as, typed}
 use Rattle.ir_tree.specs.Rules.{HasType, IsNoPhi, IsThere, IsThereAtEnd, Keeps, OnEdges, Sound, StandsRight, EntriesThere, EndTypes, place}
@@ -23,7 +23,7 @@ use Rattle.ir_tree.specs.declared.operand.Reg.{Reg}
 use Rattle.ir_tree.specs.declared.operand.Reg.TheVariants.{Int, Ptr}
 use Rattle.ir_tree.specs.declared.rule.Rule.{Rule}
 use Rattle.ir_tree.specs.declared.rule.Rule.TheVariants.{TypeMismatch, NotAvailable, PhiEdges, PhiPlace, EntryBranch, Index, Cast, CaseTwice}
-use Rattle.ir_meaning.specs.Needed.{AllKept, EdgesKept, EndReads, IsKept, LinesClosed, PhisKept, Reads, is_needed, needed, needed_block, needed_blocks, needed_lines, needed_phis}
+use Rattle.ir_meaning.specs.Needed.{AllKept, EdgesKept, EndReads, IsKept, LinesClosed, PhisKept, UsesKept, is_needed, needed, needed_block, needed_blocks, needed_lines, needed_phis}
 use Rattle.dead_code.specs.Laws.{NeededIsSound}
 use Rattle.dead_code.specs.Least.{AreBlocksClosed, IsBlockClosed}
 use Rattle.dead_code.proofs.Kept.{block_at, edges_stay, local_stays, more_of_both, numbers_stay, once_stays, phi_locals_stay, place_stays, results_stay, type_stays}
@@ -68,7 +68,7 @@ one_kept keeps a h = kept_arguments keeps (a ∷ []) (h, tt)
 two_kept : (keeps : ℕ → Bool) (a b : Argument) → IsKept keeps a.operand × IsKept keeps b.operand → AreKept keeps (a ∷ b ∷ [])
 two_kept keeps a b h = kept_arguments keeps (a ∷ b ∷ []) (h.0, (h.1, tt))
 
-kept_line : (keeps : ℕ → Bool) (i : Instr) → IsNoPhi i → Reads keeps i → AreKept keeps (reads i ++ phi_reads i)
+kept_line : (keeps : ℕ → Bool) (i : Instr) → IsNoPhi i → UsesKept keeps i → AreKept keeps (reads i ++ phi_reads i)
 kept_line keeps (kind.Binary op flags width left right) n h = two_kept keeps (typed (Int width) left) (typed (Int width) right) h
 kept_line keeps (kind.Icmp predicate reg left right) n h = two_kept keeps (typed reg left) (typed reg right) h
 kept_line keeps (kind.Cast op from value to) n h = one_kept keeps (typed from value) h
@@ -108,7 +108,7 @@ module _ (keeps : ℕ → Bool) (f : Function) where
   -- what holds of each item that stays, from what held of it
   record Stays (P Q : Item → Type 0) : Type 0 where
     phi : (b : ℕ) (p : Phi) → EdgesKept keeps p.incoming → P (phi_item b p) → Q (phi_item b p)
-    line : (b k j : ℕ) (l : Line) → IsPlaced keeps f b k j → Reads keeps l.instr → P (line_item b k l) → Q (line_item b j l)
+    line : (b k j : ℕ) (l : Line) → IsPlaced keeps f b k j → UsesKept keeps l.instr → P (line_item b k l) → Q (line_item b j l)
     last : (b : ℕ) (t : Terminator) → EndReads keeps t → P (end_item b t) → Q (end_item b t)
 
   module _ (P Q : Item → Type 0) (stays : Stays P Q) where
@@ -215,7 +215,7 @@ module _ (keeps : ℕ → Bool) (f : Function) where
     last = λ b t kept h. record {
       operands = arguments_formed (end_reads t) (kept_end keeps t kept) h.0.operands;
       sources = sources_there (entries (end_item b t)) h.0.sources;
-      kind = (h.0.kind.0, all_then (IsBlock f) (IsBlock (needed keeps f)) (targets t) block_there h.0.kind.1);
+      kind = (h.0.kind.0, all_then (IsBlock f) (IsBlock (needed keeps f)) (successors t) block_there h.0.kind.1);
     };
   }
 
@@ -326,7 +326,7 @@ module _ (keeps : ℕ → Bool) (f : Function) where
   phi_keeps Cast b p kept h = tt
   phi_keeps CaseTwice b p kept h = tt
 
-  line_keeps : (rule : Rule) (b k j : ℕ) (l : Line) → IsPlaced keeps f b k j → Reads keeps l.instr → WasKept rule (line_item b k l) → Keeps (needed keeps f) rule (line_item b j l)
+  line_keeps : (rule : Rule) (b k j : ℕ) (l : Line) → IsPlaced keeps f b k j → UsesKept keeps l.instr → WasKept rule (line_item b k l) → Keeps (needed keeps f) rule (line_item b j l)
   line_keeps TypeMismatch b k j l placed kept h = (have_types (reads l.instr ++ phi_reads l.instr) (kept_line keeps l.instr h.0.1 kept) h.1.0, h.1.1)
   line_keeps NotAvailable b k j l placed kept h = (
     reads_there b k j placed (reads l.instr)
@@ -349,7 +349,7 @@ module _ (keeps : ℕ → Bool) (f : Function) where
   end_keeps PhiEdges b t kept h = tt
   end_keeps PhiPlace b t kept h = tt
   end_keeps EntryBranch b t kept h =
-      all_then (λ n. place f.blocks n ≡ 0 → ⊥) (λ n. place (needed keeps f).blocks n ≡ 0 → ⊥) (targets t) (λ n away here. away (sym (place_stays keeps f.blocks n) ∙ here)) h.1
+      all_then (λ n. place f.blocks n ≡ 0 → ⊥) (λ n. place (needed keeps f).blocks n ≡ 0 → ⊥) (successors t) (λ n away here. away (sym (place_stays keeps f.blocks n) ∙ here)) h.1
   end_keeps Index b t kept h = tt
   end_keeps Cast b t kept h = tt
   end_keeps CaseTwice b t kept h = h.1

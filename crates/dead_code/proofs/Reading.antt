@@ -14,7 +14,7 @@ use Rattle.ir_tree.specs.declared.instr.Phi.{Phi}
 use Rattle.ir_tree.specs.declared.operand.Argument.{Argument}
 use Rattle.ir_tree.specs.declared.operand.Operand.{Operand}
 use Rattle.ir_tree.specs.declared.operand.Operand.TheVariants.{Local, Number, Null, Poison, Symbol as Named}
-use Rattle.ir_meaning.specs.Needed.{AllKept, EdgesKept, EndReads, IsKept, LinesClosed, PhisKept, Reads, is_effect, is_needed, local_kept}
+use Rattle.ir_meaning.specs.Needed.{AllKept, EdgesKept, EndReads, IsKept, LinesClosed, PhisKept, UsesKept, is_effect, is_needed, local_kept}
 use Rattle.ir_edit.specs.Uses.{block_uses as of_parts, end_uses as of_terminator}
 use Rattle.dead_code.specs.declared.uses.Use.{Use}
 use Rattle.dead_code.specs.Closure.{AllIn, IsClosedUnder, IsLeastUnder}
@@ -152,7 +152,7 @@ to_more s r o as' h c =
 of_more : (s : ℕ → Bool) (r : Option ℕ) (o : Operand) (as' : List Argument) → (Counts s r → IsKept s o × AllKept s as') → AreRead s (operand_uses r o ++ arguments_uses r as')
 of_more s r o as' h = both s (operand_uses r o) (arguments_uses r as') (of_operand s r o (λ c. (h c).0)) (of_arguments s r as' (λ c. (h c).1))
 
-to_instr : (s : ℕ → Bool) (r : Option ℕ) (i : Instr) → AreRead s (instr_uses r i) → Counts s r → Reads s i
+to_instr : (s : ℕ → Bool) (r : Option ℕ) (i : Instr) → AreRead s (instr_uses r i) → Counts s r → UsesKept s i
 to_instr s r (Binary op flags width left right) h c = to_two s r left right h c
 to_instr s r (Icmp predicate reg left right) h c = to_two s r left right h c
 to_instr s r (Cast op from value to) h c = to_operand s r value h c
@@ -168,7 +168,7 @@ to_instr s r (Address inbounds shape base indices) h c = to_more s r base indice
 to_instr s r (Call result callee arguments) h c = to_more s r callee arguments h c
 to_instr s r (StrayPhi reg incoming) h c = tt
 
-of_instr : (s : ℕ → Bool) (r : Option ℕ) (i : Instr) → (Counts s r → Reads s i) → AreRead s (instr_uses r i)
+of_instr : (s : ℕ → Bool) (r : Option ℕ) (i : Instr) → (Counts s r → UsesKept s i) → AreRead s (instr_uses r i)
 of_instr s r (Binary op flags width left right) h = of_two s r left right h
 of_instr s r (Icmp predicate reg left right) h = of_two s r left right h
 of_instr s r (Cast op from value to) h = of_operand s r value h
@@ -193,25 +193,25 @@ of_phis s [] h = tt
 of_phis s (p ∷ ps) h =
     both s (edges_uses (Some p.local) p.incoming) (phis_uses ps) (of_edges s (Some p.local) p.incoming h.0) (of_phis s ps h.1)
 
-to_named : (s : ℕ → Bool) (local : Option ℕ) (i : Instr) → AreRead s (named_uses local i) → local_kept s local ≡ true → Reads s i
+to_named : (s : ℕ → Bool) (local : Option ℕ) (i : Instr) → AreRead s (named_uses local i) → local_kept s local ≡ true → UsesKept s i
 to_named s None i h k = absurd cc
 to_named s (Some x) i h k = to_instr s (Some x) i h k
 
-of_named : (s : ℕ → Bool) (local : Option ℕ) (i : Instr) → (local_kept s local ≡ true → Reads s i) → AreRead s (named_uses local i)
+of_named : (s : ℕ → Bool) (local : Option ℕ) (i : Instr) → (local_kept s local ≡ true → UsesKept s i) → AreRead s (named_uses local i)
 of_named s None i h = tt
 of_named s (Some x) i h = of_instr s (Some x) i h
 
-to_line : (s : ℕ → Bool) (l : Line) → AreRead s (line_uses l) → is_needed s l ≡ true → Reads s l.instr
+to_line : (s : ℕ → Bool) (l : Line) → AreRead s (line_uses l) → is_needed s l ≡ true → UsesKept s l.instr
 to_line s l h n = at (is_effect l.instr) h n
   where
-    at : (b : Bool) → AreRead s (cond b (instr_uses None l.instr) (named_uses l.local l.instr)) → (b || local_kept s l.local) ≡ true → Reads s l.instr
+    at : (b : Bool) → AreRead s (cond b (instr_uses None l.instr) (named_uses l.local l.instr)) → (b || local_kept s l.local) ≡ true → UsesKept s l.instr
     at true h n = to_instr s None l.instr h tt
     at false h n = to_named s l.local l.instr h n
 
-of_line : (s : ℕ → Bool) (l : Line) → (is_needed s l ≡ true → Reads s l.instr) → AreRead s (line_uses l)
+of_line : (s : ℕ → Bool) (l : Line) → (is_needed s l ≡ true → UsesKept s l.instr) → AreRead s (line_uses l)
 of_line s l h = at (is_effect l.instr) h
   where
-    at : (b : Bool) → ((b || local_kept s l.local) ≡ true → Reads s l.instr) → AreRead s (cond b (instr_uses None l.instr) (named_uses l.local l.instr))
+    at : (b : Bool) → ((b || local_kept s l.local) ≡ true → UsesKept s l.instr) → AreRead s (cond b (instr_uses None l.instr) (named_uses l.local l.instr))
     at true h = of_instr s None l.instr (λ c. h refl)
     at false h = of_named s l.local l.instr h
 

@@ -3,7 +3,7 @@ use Rattle.std.proofs.Common.{◌≡◌, ℕ, suc, ◌<◌, ◌≤◌, nat_eq, n
 use Rattle.std.specs.Prelude.{slice_get}
 use Rattle.std.proofs.lemmas.Bool.{and_from, and_parts, eqb-true, eq-eqb, lt-ltb, ltb-true, or_cases, or_left, or_right}
 use Rattle.std.proofs.lemmas.Option.{slice_get_within}
-use Rattle.ir_tree.specs.Flow.{AtEnds, Available, IsJustified, Justified, availability, defined_in, definitions, edges, entry_row, holds, leading_to, locals, parameters, room, targets}
+use Rattle.ir_tree.specs.Flow.{AtEnds, Available, IsJustified, Justified, availability, defined_in, definitions, edges, entry_row, holds, leading_to, locals, parameters, room, successors}
 use Rattle.ir_tree.specs.declared.block.Block.{Block}
 use Rattle.ir_tree.specs.declared.function.Function.{Function}
 use Rattle.ir_meaning.specs.Counted.{times}
@@ -13,7 +13,7 @@ use Rattle.inline_site.proofs.Numbered.{below, in_holds}
 -- the local comes to the start of each block of the set: to the entry as a parameter, and to another from the end of each predecessor
 pub record Carries (h : Function) (y : ℕ) (set : ℕ → Bool) : Type 0 where
   pub entry : set 0 ≡ true → holds (parameters h) y ≡ true
-  pub other : (p q : ℕ) (b c : Block) → slice_get h.blocks p ≡ Some b → slice_get h.blocks q ≡ Some c → set p ≡ true → (p ≡ 0 → ⊥) → 1 ≤ times b.number (targets c.end)
+  pub other : (p q : ℕ) (b c : Block) → slice_get h.blocks p ≡ Some b → slice_get h.blocks q ≡ Some c → set p ≡ true → (p ≡ 0 → ⊥) → 1 ≤ times b.number (successors c.end)
       → (set q ≡ true) ⊎ (holds (definitions c) y ≡ true)
 
 module _ (h : Function) (y : ℕ) where
@@ -34,7 +34,7 @@ module _ (h : Function) (y : ℕ) where
 
         by : (o : Option Block) → slice_get h.blocks q ≡ o → (row_of set q y || defined_in (slice_get h.blocks q) y) ≡ true
         by None e = let none : times q (edges h p) ≡ 0 = many ∙ ap (out_to b.number) e in absurd (omega (arith, some, none))
-        by (Some c) e = from (carries.other p q b c at e m other (let all : times q (edges h p) ≡ times b.number (targets c.end) = many ∙ ap (out_to b.number) e in omega (arith, some, all)))
+        by (Some c) e = from (carries.other p q b c at e m other (let all : times q (edges h p) ≡ times b.number (successors c.end) = many ∙ ap (out_to b.number) e in omega (arith, some, all)))
           where
             from : (set q ≡ true) ⊎ (holds (definitions c) y ≡ true) → (row_of set q y || defined_in (slice_get h.blocks q) y) ≡ true
             from (inl k) = or_left (row_of set q y) (defined_in (slice_get h.blocks q) y) (marked set q c e k)
@@ -84,11 +84,11 @@ module _ (h : Function) (y : ℕ) where
     other = λ p q b c at_p at_q m other some. by p q b c at_p at_q other some (nat_eq p 0) refl (just p y m).2;
   }
     where
-      by : (p q : ℕ) (b c : Block) → slice_get h.blocks p ≡ Some b → slice_get h.blocks q ≡ Some c → (p ≡ 0 → ⊥) → 1 ≤ times b.number (targets c.end)
+      by : (p q : ℕ) (b c : Block) → slice_get h.blocks p ≡ Some b → slice_get h.blocks q ≡ Some c → (p ≡ 0 → ⊥) → 1 ≤ times b.number (successors c.end)
           → (t : Bool) → nat_eq p 0 ≡ t → Justified (availability h) rows p y (if t then Some (holds (parameters h)) else None) → (rows q y ≡ true) ⊎ (holds (definitions c) y ≡ true)
       by p q b c at_p at_q other some true e j = absurd (other (eqb-true p 0 e))
       by p q b c at_p at_q other some false e j =
-          let many : times q (edges h p) ≡ times b.number (targets c.end) = edges_from h p b at_p q ∙ ap (out_to b.number) at_q in
+          let many : times q (edges h p) ≡ times b.number (successors c.end) = edges_from h p b at_p q ∙ ap (out_to b.number) at_q in
           or_cases (rows q y) (holds (definitions c) y)
           (sym (ap (λ (o : Option Block). rows q y || defined_in o y) at_q) ∙ at_end rows q (edges h p) j (omega (arith, many, some)))
 

@@ -4,7 +4,7 @@ use Rattle.std.specs.Prelude.{slice_get}
 use Rattle.std.specs.List.{cons_option}
 use Rattle.std.proofs.lemmas.Bool.{and_parts, ltb-true, or_cases, or_left, or_right}
 use Rattle.std.proofs.lemmas.List.{map-append, take-map, take_all}
-use Rattle.ir_tree.specs.Flow.{Available, AvailableAt, AvailableAtEnd, defined_before, definitions, holds, line_count, locals, parameters, phi_locals, results, targets}
+use Rattle.ir_tree.specs.Flow.{Available, AvailableAt, AvailableAtEnd, defined_before, definitions, holds, line_count, locals, parameters, phi_locals, results, successors}
 use Rattle.std.proofs.lemmas.Option.{slice_get_within}
 use Rattle.ir_tree.specs.Rules.{place}
 use Rattle.ir_tree.specs.declared.block.Block.{Block}
@@ -132,7 +132,7 @@ module _ (z : Inlining) (y : ℕ) where
             inl (mid q (omega (arith, is, q_is)) (omega (arith, is, q_is)) ∙ or_right (set n) before k.1)
 
     -- from the copy's and the second half's predecessors
-    in_middle : (q : ℕ) (b : Block) → first_free z.f ≤ b.number → (set n || before) ≡ true → (c : Block) → slice_get (made z).blocks q ≡ Some c → 1 ≤ times b.number (targets c.end)
+    in_middle : (q : ℕ) (b : Block) → first_free z.f ≤ b.number → (set n || before) ≡ true → (c : Block) → slice_get (made z).blocks q ≡ Some c → 1 ≤ times b.number (successors c.end)
         → (moved_set q ≡ true) ⊎ (holds (definitions c) y ≡ true)
     in_middle q b past marked c at some = by (by_end z q c at)
       where
@@ -142,7 +142,7 @@ module _ (z : Inlining) (y : ℕ) where
 
         by : ((i : ℕ) × (o : Block) × Finishes z i o q c) ⊎ (IsFirst z q c ⊎ InCopy z q c) → (moved_set q ≡ true) ⊎ (holds (definitions c) y ≡ true)
         by (inl (i, o, s)) =
-            let none : times b.number (targets c.end) ≡ 0 = (λ k. times b.number (targets (s.end k))) ∙ ap (times b.number) (outer_targets z o.end) ∙ old_targets z i o s.old b.number past in
+            let none : times b.number (successors c.end) ≡ 0 = (λ k. times b.number (successors (s.end k))) ∙ ap (times b.number) (outer_targets z o.end) ∙ old_targets z i o s.old b.number past in
             absurd (omega (arith, none, some))
         by (inr (inl (e, c_is))) = of_first e c_is (or_cases (set n) before marked)
         by (inr (inr (j, d, q_is, at_j, c_is))) =
@@ -155,23 +155,23 @@ module _ (z : Inlining) (y : ℕ) where
       other = other;
     }
       where
-        other : (p q : ℕ) (b c : Block) → slice_get (made z).blocks p ≡ Some b → slice_get (made z).blocks q ≡ Some c → moved_set p ≡ true → (p ≡ 0 → ⊥) → 1 ≤ times b.number (targets c.end)
+        other : (p q : ℕ) (b c : Block) → slice_get (made z).blocks p ≡ Some b → slice_get (made z).blocks q ≡ Some c → moved_set p ≡ true → (p ≡ 0 → ⊥) → 1 ≤ times b.number (successors c.end)
             → (moved_set q ≡ true) ⊎ (holds (definitions c) y ≡ true)
         other p q b c at_p at_q marked inner' some = by (by_start z p b at_p)
           where
             from_old : (i : ℕ) (a : Block) → Starts z i a p b → ((r : ℕ) × (o : Block) × Finishes z r o q c) ⊎ (IsFirst z q c ⊎ InCopy z q c) → (moved_set q ≡ true) ⊎ (holds (definitions c) y ≡ true)
             from_old i a s (inl (r, o, t)) =
-                let many : times b.number (targets c.end) ≡ times a.number (targets o.end) = (λ k. times (s.number k) (targets (t.end k))) ∙ ap (times a.number) (outer_targets z o.end) in
+                let many : times b.number (successors c.end) ≡ times a.number (successors o.end) = (λ k. times (s.number k) (successors (t.end k))) ∙ ap (times a.number) (outer_targets z o.end) in
                 at_finish r o q c t (carries.other i r a o s.old t.old (sym (at_start i a p b s) ∙ marked) (λ e. inner' (first_still e s.moved)) (omega (arith, many, some)))
               where
                 first_still : i ≡ 0 → ((p ≡ i) × (i ≤ n)) ⊎ ((p ≡ i + suc m) × (n < i)) → p ≡ 0
                 first_still e (inl k) = k.0 ∙ e
                 first_still e (inr k) = absurd (omega (arith, e, k.1))
             from_old i a s (inr (inl (e, c_is))) =
-                let none : times b.number (targets c.end) ≡ 0 = (λ k. times (s.number k) (targets (c_is k).end)) ∙ first_targets z a.number (block_below z.f a.number (number_there z.f i a s.old)) in
+                let none : times b.number (successors c.end) ≡ 0 = (λ k. times (s.number k) (successors (c_is k).end)) ∙ first_targets z a.number (block_below z.f a.number (number_there z.f i a s.old)) in
                 absurd (omega (arith, none, some))
             from_old i a s (inr (inr (j, d, q_is, at_j, c_is))) =
-                let none : times b.number (targets c.end) ≡ 0 = (λ k. times (s.number k) (targets (c_is k).end)) ∙ inner_targets z d a.number (block_below z.f a.number (number_there z.f i a s.old)) in
+                let none : times b.number (successors c.end) ≡ 0 = (λ k. times (s.number k) (successors (c_is k).end)) ∙ inner_targets z d a.number (block_below z.f a.number (number_there z.f i a s.old)) in
                 absurd (omega (arith, none, some))
 
             by : ((i : ℕ) × (a : Block) × Starts z i a p b) ⊎ (InCopy z p b ⊎ IsSecond z p b) → (moved_set q ≡ true) ⊎ (holds (definitions c) y ≡ true)
@@ -286,7 +286,7 @@ module _ (z : Inlining) (y : ℕ) where
       other = other;
     }
       where
-        other : (p q : ℕ) (b c : Block) → slice_get (made z).blocks p ≡ Some b → slice_get (made z).blocks q ≡ Some c → inner_set p ≡ true → (p ≡ 0 → ⊥) → 1 ≤ times b.number (targets c.end)
+        other : (p q : ℕ) (b c : Block) → slice_get (made z).blocks p ≡ Some b → slice_get (made z).blocks q ≡ Some c → inner_set p ≡ true → (p ≡ 0 → ⊥) → 1 ≤ times b.number (successors c.end)
             → (inner_set q ≡ true) ⊎ (holds (definitions c) (new z y) ≡ true)
         other p q b c at_p at_q marked inner' some = by (by_start z p b at_p)
           where
@@ -299,10 +299,10 @@ module _ (z : Inlining) (y : ℕ) where
             from : (j : ℕ) (d : Block) → p ≡ n + suc j → slice_get z.callee.blocks j ≡ Some d → b ≡ inner z d → ((r : ℕ) × (o : Block) × Finishes z r o q c) ⊎ (IsFirst z q c ⊎ InCopy z q c)
                 → (inner_set q ≡ true) ⊎ (holds (definitions c) (new z y) ≡ true)
             from j d p_is at_j b_is (inl (r, o, t)) =
-                let none : times b.number (targets c.end) ≡ 0 = (λ k. times (b_is k).number (targets (t.end k))) ∙ ap (times (new z d.number)) (outer_targets z o.end) ∙ old_targets z r o t.old (new z d.number) (new_past z d.number) in
+                let none : times b.number (successors c.end) ≡ 0 = (λ k. times (b_is k).number (successors (t.end k))) ∙ ap (times (new z d.number)) (outer_targets z o.end) ∙ old_targets z r o t.old (new z d.number) (new_past z d.number) in
                 absurd (omega (arith, none, some))
             from j d p_is at_j b_is (inr (inl (e, c_is))) =
-                let many : times b.number (targets c.end) ≡ times (new z d.number) (targets (first z).end) = λ k. times (b_is k).number (targets (c_is k).end) in
+                let many : times b.number (successors c.end) ≡ times (new z d.number) (successors (first z).end) = λ k. times (b_is k).number (successors (c_is k).end) in
                 absurd (no_entry (entry_names (omega (arith, many, some))))
               where
                 entry_names : 1 ≤ times (new z d.number) (entry_of (copied_with z.op z.f z.callee z.arguments) ∷ []) → new z d.number ≡ entry_of (copied_with z.op z.f z.callee z.arguments)
@@ -318,7 +318,7 @@ module _ (z : Inlining) (y : ℕ) where
                     let first_one : j ≡ 0 = sym (callee_place z j d at_j) ∙ ap (place z.callee.blocks) same ∙ callee_place z 0 (entry_block z).0 (entry_block z).1 in
                     no_parameter (carries.entry (ap set (sym first_one) ∙ sym (inner_in p j p_is (slice_get_within z.callee.blocks j d at_j)) ∙ marked))
             from j d p_is at_j b_is (inr (inr (i, e, q_is, at_i, c_is))) =
-                let many : times b.number (targets c.end) ≡ times d.number (targets e.end) = (λ k. times (b_is k).number (targets (c_is k).end)) ∙ copied_targets z e d.number (block_below z.callee d.number (number_there z.callee j d at_j)) in
+                let many : times b.number (successors c.end) ≡ times d.number (successors e.end) = (λ k. times (b_is k).number (successors (c_is k).end)) ∙ copied_targets z e d.number (block_below z.callee d.number (number_there z.callee j d at_j)) in
                 then_in (carries.other j i d e at_j at_i (sym (inner_in p j p_is (slice_get_within z.callee.blocks j d at_j)) ∙ marked) not_first (omega (arith, many, some)))
               where
                 not_first : j ≡ 0 → ⊥

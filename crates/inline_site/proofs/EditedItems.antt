@@ -3,7 +3,7 @@ use Rattle.std.proofs.Common.{◌≡◌, ℕ, List, [], ◌∷◌, Option, Some,
 use Rattle.std.specs.Prelude.{All, IsSome}
 use Rattle.std.proofs.lemmas.List.Elements.{All-map}
 use Rattle.ir_tree.specs.Forms.{Form, int, pointer, array, structure}
-use Rattle.ir_tree.specs.Flow.{targets}
+use Rattle.ir_tree.specs.Flow.{successors}
 use Rattle.ir_tree.specs.Formed.{CaseFormed, CasesFormed, InstrFormed, ResultFormed}
 use Rattle.ir_tree.specs.Items.{end_reads, phi_reads, reads, taken, typed}
 use Rattle.ir_tree.specs.Rules.{CaseHas, CasesDiffer, EndDiffers, Follow, IndicesFollow, IsNoPhi, LineCasts, LineFollows, LineOnEdges, LineTypes, result_type}
@@ -67,7 +67,7 @@ module _ (number : ℕ → ℕ) (op : Operand → Operand) where
   map_targets [] = refl
   map_targets (c ∷ cs) = ap (λ (l : List ℕ). number c.target ∷ l) (map_targets cs)
 
-  pub targets_edited : (t : Terminator) → targets (end t) ≡ map number (targets t)
+  pub targets_edited : (t : Terminator) → successors (end t) ≡ map number (successors t)
   targets_edited (Switch width value default cases) = ap (λ (l : List ℕ). number default ∷ l) (map_targets cases)
   targets_edited _ = refl
 

@@ -4,7 +4,7 @@ use Rattle.std.specs.Prelude.{All, flat_map}
 use Rattle.std.proofs.lemmas.Bool.Decides.{nat_tests}
 use Rattle.std.proofs.lemmas.List.{get_or_append_left, get_or-append-add}
 use Rattle.std.proofs.lemmas.List.Elements.{All-head, All-tail}
-use Rattle.ir_tree.specs.Flow.{definitions, holds, locals, parameters, targets}
+use Rattle.ir_tree.specs.Flow.{definitions, holds, locals, parameters, successors}
 use Rattle.ir_tree.specs.Formed.{ArgumentFormed, IsBlock, IsLocal, ItemFormed, OperandFormed, numbers}
 use Rattle.ir_tree.specs.Items.{Item, phi_item, line_item, end_item, block_items, end_reads, items_from, lines_from, phi_reads, reads, taken_as, typed}
 use Rattle.ir_tree.specs.Rules.{IsNoPhi, Sound, StandsRight}
@@ -26,7 +26,7 @@ use Rattle.ir_tree.specs.declared.rule.Rule.TheVariants.{PhiPlace}
 use Rattle.ir_edit.specs.Numbered.{block_numbers, blocks_numbers, line_numbers, local_number, numbers_of, param_numbers, phi_numbers}
 use Rattle.ir_edit.proofs.Tally.{tally, tally_both, tally_same}
 use Rattle.ir_meaning.specs.Inline.{BlocksBelow, EdgesBelow, LinesBelow, PhisBelow, below}
-use Rattle.ir_meaning.specs.Needed.{AllKept, EndReads, IsKept, Reads}
+use Rattle.ir_meaning.specs.Needed.{AllKept, EndReads, IsKept, UsesKept}
 use Rattle.inline_site.specs.Copies.{first_free}
 use Rattle.inline_site.proofs.Once.{below_room}
 use Rattle.ir_edit.proofs.Counting.{blocks_tally, params_are}
@@ -87,7 +87,7 @@ LocalBelow n (Some x) = x < n
 
 abbrev pub LinesFit : ℕ → List Line → Type 0
 LinesFit n [] = Unit {0}
-LinesFit n (l ∷ ls) = LocalBelow n l.local × Reads (below n) l.instr × IsNoPhi l.instr × LinesFit n ls
+LinesFit n (l ∷ ls) = LocalBelow n l.local × UsesKept (below n) l.instr × IsNoPhi l.instr × LinesFit n ls
 
 abbrev pub PhisFit : ℕ → List Phi → Type 0
 PhisFit n [] = Unit {0}
@@ -102,7 +102,7 @@ pub record BlockFits (n : ℕ) (b : Block) : Type 0 where
   pub phis : PhisFit n b.phis
   pub lines : LinesFit n b.lines
   pub end : EndReads (below n) b.end
-  pub targets : AreBelow n (targets b.end)
+  pub targets : AreBelow n (successors b.end)
 
 abbrev pub BlocksFit : ℕ → List Block → Type 0
 BlocksFit n [] = Unit {0}
@@ -121,7 +121,7 @@ first_kept n a as' h = (kept_all n (a ∷ as') h).0
 two_kept : (n : ℕ) (a b : Argument) (as' : List Argument) → AllBelow n (a ∷ b ∷ as') → IsKept (below n) a.operand × IsKept (below n) b.operand
 two_kept n a b as' h = let k = kept_all n (a ∷ b ∷ as') h in (k.0, k.1.0)
 
-reads_below : (n : ℕ) (i : Instr) → AllBelow n (reads i ++ phi_reads i) → Reads (below n) i
+reads_below : (n : ℕ) (i : Instr) → AllBelow n (reads i ++ phi_reads i) → UsesKept (below n) i
 reads_below n (Binary op flags width left right) h = two_kept n (typed (Int width) left) (typed (Int width) right) [] h
 reads_below n (Icmp predicate reg left right) h = two_kept n (typed reg left) (typed reg right) [] h
 reads_below n (Cast op from value to) h = first_kept n (typed from value) [] h
@@ -223,7 +223,7 @@ module _ (f : Function) (sound : Sound f) where
         phis = phis_fit k b.phis (defines_front (phi_numbers b.phis) (line_numbers b.lines) inner) (all_front (ItemFormed f) phis (lines ++ last) h);
         lines = lines_fit k 0 b.lines (defines_back (phi_numbers b.phis) (line_numbers b.lines) inner) (all_front (ItemFormed f) lines last rest) (all_front StandsRight lines last rest');
         end = end_below free b.end (arguments_below (end_reads b.end) end.operands);
-        targets = targets_fit (targets b.end) end.kind.1;
+        targets = targets_fit (successors b.end) end.kind.1;
       }
 
   blocks_fit : (k : ℕ) (bs : List Block) → Defines (blocks_numbers bs) → All (ItemFormed f) (items_from k bs) → All StandsRight (items_from k bs) → BlocksFit free bs

@@ -1,7 +1,7 @@
 -- Under new numbers that leave those below a bound as they are, what names no other number stays as it is.
 use Rattle.std.proofs.Common.{◌≡◌, ℕ, ◌<◌, true, List, [], ◌∷◌, Option, Some, None, map, option_map, refl, ap, arith}
 use Rattle.std.proofs.lemmas.Bool.Decides.{nat_tests}
-use Rattle.ir_tree.specs.Flow.{targets}
+use Rattle.ir_tree.specs.Flow.{successors}
 use Rattle.ir_tree.specs.Rules.{IsNoPhi}
 use Rattle.ir_tree.specs.declared.block.Case.{Case}
 use Rattle.ir_tree.specs.declared.block.Terminator.{Terminator}
@@ -14,7 +14,7 @@ use Rattle.ir_tree.specs.declared.operand.Operand.{Operand}
 use Rattle.ir_tree.specs.declared.operand.Operand.TheVariants.{Local, Null, Number, Poison, Symbol as Named}
 use Rattle.ir_tree.specs.Edited.{argument_edited}
 use Rattle.ir_meaning.specs.Inline.{below}
-use Rattle.ir_meaning.specs.Needed.{AllKept, EndReads, IsKept, Reads}
+use Rattle.ir_meaning.specs.Needed.{AllKept, EndReads, IsKept, UsesKept}
 use Rattle.ir_meaning.specs.Renumber.{case_renumbered, end_renumbered, instr_renumbered, line_renumbered, operand_renumbered}
 use Rattle.inline_site.proofs.Fitting.{AreBelow, LinesFit, LocalBelow}
 
@@ -36,7 +36,7 @@ module _ (n : ℕ) (new : ℕ → ℕ) (fixed : (x : ℕ) → x < n → new x �
   arguments_fixed [] h = refl
   arguments_fixed (a ∷ more) h = λ i. argument_fixed a h.0 i ∷ arguments_fixed more h.1 i
 
-  instr_fixed : (i : Instr) → Reads (below n) i → IsNoPhi i → instr_renumbered new i ≡ i
+  instr_fixed : (i : Instr) → UsesKept (below n) i → IsNoPhi i → instr_renumbered new i ≡ i
   instr_fixed (Binary op flags width left right) h s = λ i. Binary op flags width (operand_fixed left h.0 i) (operand_fixed right h.1 i)
   instr_fixed (Icmp predicate reg left right) h s = λ i. Icmp predicate reg (operand_fixed left h.0 i) (operand_fixed right h.1 i)
   instr_fixed (Cast op from value to) h s = λ i. Cast op from (operand_fixed value h i) to
@@ -61,7 +61,7 @@ module _ (n : ℕ) (new : ℕ → ℕ) (fixed : (x : ℕ) → x < n → new x �
   cases_fixed [] h = refl
   cases_fixed (c ∷ cs) h = λ i. record { reg = c.reg; width = c.width; bits = c.bits; target = fixed c.target h.0 i } ∷ cases_fixed cs h.1 i
 
-  pub end_fixed : (t : Terminator) → EndReads (below n) t → AreBelow n (targets t) → end_renumbered new t ≡ t
+  pub end_fixed : (t : Terminator) → EndReads (below n) t → AreBelow n (successors t) → end_renumbered new t ≡ t
   end_fixed (Return None) h g = refl
   end_fixed (Return (Some a)) h g = ap (λ (x : Argument). Return (Some x)) (argument_fixed a h)
   end_fixed (Jump target) h g = ap (λ (x : ℕ). Jump x) (fixed target g.0)

@@ -3,7 +3,7 @@ use Rattle.std.proofs.Common.{◌≡◌, ℕ, zero, suc, ◌+◌, ◌<◌, ◌�
 use Rattle.std.specs.Prelude.{All, slice_get}
 use Rattle.std.proofs.lemmas.Bool.{cases_eq, eq-eqb, ne_eqb}
 use Rattle.std.proofs.lemmas.List.Elements.{All-head}
-use Rattle.ir_tree.specs.Flow.{locals, targets}
+use Rattle.ir_tree.specs.Flow.{locals, successors}
 use Rattle.ir_tree.specs.Formed.{IsBlock, numbers}
 use Rattle.ir_tree.specs.Items.{block_items, items, line_item, lines_from}
 use Rattle.ir_tree.specs.Rules.{Sound, place}
@@ -43,7 +43,7 @@ times_other x t differ = ap (λ (b : Bool). if b then suc (times x []) else time
 
 -- a copied terminator leads where it led, and a return leads behind the call
 leads_inner : (number : ℕ → ℕ) (op : Operand → Operand) (last : ℕ) (t : Terminator)
-    → (targets (end_leading last (end_edited number op t)) ≡ map number (targets t)) ⊎ ((targets (end_leading last (end_edited number op t)) ≡ last ∷ []) × (targets t ≡ []))
+    → (successors (end_leading last (end_edited number op t)) ≡ map number (successors t)) ⊎ ((successors (end_leading last (end_edited number op t)) ≡ last ∷ []) × (successors t ≡ []))
 leads_inner number op last (Return a) = inr (refl, refl)
 leads_inner number op last (Jump target) = inl refl
 leads_inner number op last (Branch condition if_true if_false) = inl refl
@@ -68,9 +68,9 @@ call_line_right h sound s blocks lines =
     let same : 0 + length s.before ≡ length s.before = omega arith in
     subst (λ (k : ℕ). IsRight h (line_item (length s.front) k s.call)) same last
 
--- the targets of its terminators are blocks
-pub targets_right : (h : Function) → Sound h → (i : ℕ) (b : Block) → slice_get h.blocks i ≡ Some b → (x : ℕ) → 1 ≤ times x (targets b.end) → IsBlock h x
-targets_right h sound i b at x some = all_among (IsBlock h) x (targets b.end) (in_block (IsRight h) i b (items_right h sound i b at)).end.0.kind.1 some
+-- the successors of its terminators are blocks
+pub targets_right : (h : Function) → Sound h → (i : ℕ) (b : Block) → slice_get h.blocks i ≡ Some b → (x : ℕ) → 1 ≤ times x (successors b.end) → IsBlock h x
+targets_right h sound i b at x some = all_among (IsBlock h) x (successors b.end) (in_block (IsRight h) i b (items_right h sound i b at)).end.0.kind.1 some
 
 pub number_there : (h : Function) (i : ℕ) (b : Block) → slice_get h.blocks i ≡ Some b → IsBlock h b.number
 number_there h i b at = holds_in b.number (numbers h) (i, number_at h.blocks i b at)
@@ -89,8 +89,8 @@ named_cases block last x = by (cases_eq x block)
 module _ (z : Inlining) where
   -- ---- terminators
 
-  pub outer_targets : (t : Terminator) → targets (end_edited (λ x. x) z.op t) ≡ targets t
-  outer_targets t = targets_edited (λ x. x) z.op t ∙ map-id (targets t)
+  pub outer_targets : (t : Terminator) → successors (end_edited (λ x. x) z.op t) ≡ successors t
+  outer_targets t = targets_edited (λ x. x) z.op t ∙ map-id (successors t)
 
   -- the callee's entry is the copy's
   pub entry_is : (d : Block) → slice_get z.callee.blocks 0 ≡ Some d → entry_of (copied_with z.op z.f z.callee z.arguments) ≡ new z d.number
@@ -114,35 +114,35 @@ module _ (z : Inlining) where
       omega (arith, is, past)
 
   -- the caller's terminators lead to none of the new numbers
-  pub old_targets : (i : ℕ) (b : Block) → slice_get z.f.blocks i ≡ Some b → (x : ℕ) → first_free z.f ≤ x → times x (targets b.end) ≡ 0
-  old_targets i b at x past = by (times x (targets b.end)) refl
+  pub old_targets : (i : ℕ) (b : Block) → slice_get z.f.blocks i ≡ Some b → (x : ℕ) → first_free z.f ≤ x → times x (successors b.end) ≡ 0
+  old_targets i b at x past = by (times x (successors b.end)) refl
     where
-      by : (k : ℕ) → times x (targets b.end) ≡ k → k ≡ 0
+      by : (k : ℕ) → times x (successors b.end) ≡ k → k ≡ 0
       by zero e = refl
       by (suc k) e = let lt : x < first_free z.f = block_below z.f x (targets_right z.f z.sound i b at x (omega (arith, e))) in absurd (omega (arith, lt, past))
 
-  pub first_targets : (x : ℕ) → x < first_free z.f → times x (targets (first z).end) ≡ 0
+  pub first_targets : (x : ℕ) → x < first_free z.f → times x (successors (first z).end) ≡ 0
   first_targets x lt = times_other x (entry_of (copied_with z.op z.f z.callee z.arguments)) (λ e. let past : first_free z.f ≤ entry_of (copied_with z.op z.f z.callee z.arguments) = entry_past in omega (arith, e, lt, past))
 
-  pub first_not_behind : times (behind z) (targets (first z).end) ≡ 0
+  pub first_not_behind : times (behind z) (successors (first z).end) ≡ 0
   first_not_behind =
       times_other (behind z) (entry_of (copied_with z.op z.f z.callee z.arguments))
       (λ e. new_not_behind z entry_block.0.number (block_below z.callee entry_block.0.number (number_there z.callee 0 entry_block.0 entry_block.1)) (sym (entry_is entry_block.0 entry_block.1) ∙ e))
 
   -- the copy's terminators lead to none of the caller's blocks
-  pub inner_targets : (d : Block) (x : ℕ) → x < first_free z.f → times x (targets (inner z d).end) ≡ 0
+  pub inner_targets : (d : Block) (x : ℕ) → x < first_free z.f → times x (successors (inner z d).end) ≡ 0
   inner_targets d x lt = by (leads_inner (new z) (inner_op z) (behind z) d.end)
     where
-      by : (targets (inner z d).end ≡ map (new z) (targets d.end)) ⊎ ((targets (inner z d).end ≡ behind z ∷ []) × (targets d.end ≡ [])) → times x (targets (inner z d).end) ≡ 0
-      by (inl e) = ap (times x) e ∙ times_none (new z) x (λ y s. let past : first_free z.f ≤ new z y = new_past z y in omega (arith, s, lt, past)) (targets d.end)
+      by : (successors (inner z d).end ≡ map (new z) (successors d.end)) ⊎ ((successors (inner z d).end ≡ behind z ∷ []) × (successors d.end ≡ [])) → times x (successors (inner z d).end) ≡ 0
+      by (inl e) = ap (times x) e ∙ times_none (new z) x (λ y s. let past : first_free z.f ≤ new z y = new_past z y in omega (arith, s, lt, past)) (successors d.end)
       by (inr e) = ap (times x) e.0 ∙ times_other x (behind z) (λ s. let past : first_free z.f ≤ behind z = behind_past z in omega (arith, s, lt, past))
 
   -- and to those of the copy as the callee's do to its own
-  pub copied_targets : (d : Block) (x : ℕ) → x < first_free z.callee → times (new z x) (targets (inner z d).end) ≡ times x (targets d.end)
+  pub copied_targets : (d : Block) (x : ℕ) → x < first_free z.callee → times (new z x) (successors (inner z d).end) ≡ times x (successors d.end)
   copied_targets d x lt = by (leads_inner (new z) (inner_op z) (behind z) d.end)
     where
-      by : (targets (inner z d).end ≡ map (new z) (targets d.end)) ⊎ ((targets (inner z d).end ≡ behind z ∷ []) × (targets d.end ≡ [])) → times (new z x) (targets (inner z d).end) ≡ times x (targets d.end)
-      by (inl e) = ap (times (new z x)) e ∙ times_new (new z) (copied_apart (first_free z.f) z.callee) x (targets d.end)
+      by : (successors (inner z d).end ≡ map (new z) (successors d.end)) ⊎ ((successors (inner z d).end ≡ behind z ∷ []) × (successors d.end ≡ [])) → times (new z x) (successors (inner z d).end) ≡ times x (successors d.end)
+      by (inl e) = ap (times (new z x)) e ∙ times_new (new z) (copied_apart (first_free z.f) z.callee) x (successors d.end)
       by (inr e) = ap (times (new z x)) e.0 ∙ times_other (new z x) (behind z) (λ s. new_not_behind z x lt (sym s)) ∙ sym (ap (times x) e.1)
 
   -- ---- blocks by their numbers

@@ -2,7 +2,7 @@
 use Rattle.std.proofs.Common.{◌≡◌, ◌≢◌, ℕ, suc, ◌+◌, ◌<◌, ◌≤◌, inl, inr, ◌==◌, nat_eq, Bool, true, false, List, [], ◌∷◌, ◌++◌, Option, Some, None, map, option_map, refl, sym, ◌∙◌, ap, subst, arith, append_assoc, if◌then◌else◌}
 use Rattle.std.specs.Prelude.{All}
 use Rattle.std.proofs.lemmas.Bool.{eqb-true}
-use Rattle.ir_tree.specs.Flow.{targets}
+use Rattle.ir_tree.specs.Flow.{successors}
 use Rattle.ir_tree.specs.Items.{block_items, items_from}
 use Rattle.ir_tree.specs.Rules.{EndTypes, Keeps, Sound}
 use Rattle.ir_tree.specs.declared.block.Block.{Block}
@@ -162,7 +162,7 @@ cases_below n [] h m t = absurd t
 cases_below n (c ∷ cs) h m (inl e) = subst (λ (k : ℕ). k < n) e h.0
 cases_below n (c ∷ cs) h m (inr t) = cases_below n cs h.1 m t
 
-target_below : (n : ℕ) (e : Terminator) → AreBelow n (targets e) → (m : ℕ) → IsTarget e m → m < n
+target_below : (n : ℕ) (e : Terminator) → AreBelow n (successors e) → (m : ℕ) → IsTarget e m → m < n
 target_below n (Return a) h m t = absurd t
 target_below n (Jump target) h m t = subst (λ (k : ℕ). k < n) t h.0
 target_below n (Branch condition if_true if_false) h m (inl t) = subst (λ (k : ℕ). k < n) t h.0
@@ -232,7 +232,7 @@ module _ (free : ℕ) (callee : Function) (as' : List Argument) (x : ℕ) (is : 
   copied_cases (c ∷ cs) h m (inl t) e = not_behind c.target h.0 (t ∙ e)
   copied_cases (c ∷ cs) h m (inr t) e = copied_cases cs h.1 m t e
 
-  copied_end : (t : Terminator) → NotReturn t → AreBelow (first_free callee) (targets t) → (m : ℕ) → IsTarget (end_leading behind (end_edited number operand t)) m → m ≡ behind → ⊥
+  copied_end : (t : Terminator) → NotReturn t → AreBelow (first_free callee) (successors t) → (m : ℕ) → IsTarget (end_leading behind (end_edited number operand t)) m → m ≡ behind → ⊥
   copied_end (Return a) not h m t e = not
   copied_end (Jump target) not h m t e = not_behind target h.0 (t ∙ e)
   copied_end (Branch condition if_true if_false) not h m (inl t) e = not_behind if_true h.0 (t ∙ e)

@@ -2,7 +2,7 @@
 use Rattle.std.proofs.Common.{◌≡◌, ℕ, suc, ◌+◌, ◌<◌, ◌≤◌, ◌⊎◌, inl, inr, List, [], ◌∷◌, ◌++◌, Option, Some, None, map, length, refl, sym, ◌∙◌, ap, subst, arith}
 use Rattle.std.specs.Prelude.{All, slice_get}
 use Rattle.std.proofs.lemmas.List.Elements.{All-cons, All-head, All-map, All-nil, All-tail, All-weaker}
-use Rattle.ir_tree.specs.Flow.{locals, targets}
+use Rattle.ir_tree.specs.Flow.{locals, successors}
 use Rattle.ir_tree.specs.Formed.{ArgumentFormed, Distinct, IsBlock, IsResult, numbers}
 use Rattle.ir_tree.specs.Items.{phi_item, line_item, end_item, block_items, items, lines_from, typed}
 use Rattle.ir_tree.specs.Rules.{EndTypes, HasType, IsThere, IsThereAtEnd, Keeps, Sound, place}
@@ -163,11 +163,11 @@ module _ (z : Inlining) where
       lt = block_below z.f b.number (number_there z.f i b s.old)
 
       by : ((r : ℕ) × (o : Block) × Finishes z r o q c) ⊎ (IsFirst z q c ⊎ InCopy z q c) → Leads z.f (block_named z.s.block.number (behind z)) b.number a.number c
-      by (inl (r, o, t)) = inl (r, o, t.old, t.number, (λ k. times (s.number k) (targets (t.end k))) ∙ ap (times b.number) (outer_targets z o.end))
+      by (inl (r, o, t)) = inl (r, o, t.old, t.number, (λ k. times (s.number k) (successors (t.end k))) ∙ ap (times b.number) (outer_targets z o.end))
       by (inr (inl (q_is, c_is))) =
-          inr ((λ x there e. named_not_block x there (e ∙ ap (λ (y : Block). y.number) c_is)), (λ k. times (s.number k) (targets (c_is k).end)) ∙ first_targets z b.number lt)
+          inr ((λ x there e. named_not_block x there (e ∙ ap (λ (y : Block). y.number) c_is)), (λ k. times (s.number k) (successors (c_is k).end)) ∙ first_targets z b.number lt)
       by (inr (inr (j, d, q_is, at_j, c_is))) =
-          inr ((λ x there e. named_not_new x d.number there (number_there z.callee j d at_j) (e ∙ ap (λ (y : Block). y.number) c_is)), (λ k. times (s.number k) (targets (c_is k).end)) ∙ inner_targets z d b.number lt)
+          inr ((λ x there e. named_not_new x d.number there (number_there z.callee j d at_j) (e ∙ ap (λ (y : Block). y.number) c_is)), (λ k. times (s.number k) (successors (c_is k).end)) ∙ inner_targets z d b.number lt)
 
   start_phi : (i : ℕ) (b : Block) (q : ℕ) (c : Block) → Starts z i b q c → (p : Phi) → IsRight z.f (phi_item i p) → IsRight g (phi_item q (outer_phi z p))
   start_phi i b q c s p h =
@@ -260,10 +260,10 @@ module _ (z : Inlining) where
       by (inl (r, o, t)) =
           inr (
             (λ x there e. named_not_new o.number x (number_there z.f r o t.old) there (sym (e ∙ t.number))),
-            (λ k. times (new z d.number) (targets (t.end k))) ∙ ap (times (new z d.number)) (outer_targets z o.end) ∙ old_targets z r o t.old (new z d.number) (new_past z d.number),
+            (λ k. times (new z d.number) (successors (t.end k))) ∙ ap (times (new z d.number)) (outer_targets z o.end) ∙ old_targets z r o t.old (new z d.number) (new_past z d.number),
           )
       by (inr (inl (q_is, c_is))) =
-          inr ((λ x there e. new_not_block x (e ∙ ap (λ (y : Block). y.number) c_is)), (λ k. times (new z d.number) (targets (c_is k).end)) ∙ not_entry)
+          inr ((λ x there e. new_not_block x (e ∙ ap (λ (y : Block). y.number) c_is)), (λ k. times (new z d.number) (successors (c_is k).end)) ∙ not_entry)
         where
           new_not_block : (x : ℕ) → new z x ≡ z.s.block.number → ⊥
           new_not_block x same =
@@ -271,12 +271,12 @@ module _ (z : Inlining) where
               let past : first_free z.f ≤ new z x = new_past z x in
               omega (arith, same, lt, past)
 
-          not_entry : times (new z d.number) (targets (first z).end) ≡ 0
+          not_entry : times (new z d.number) (successors (first z).end) ≡ 0
           not_entry = times_other (new z d.number) (entry_of (copied_with z.op z.f z.callee z.arguments)) (λ e.
               let same : d.number ≡ (entry_block z).0.number = copied_apart (first_free z.f) z.callee d.number (entry_block z).0.number (sym e ∙ entry_is z (entry_block z).0 (entry_block z).1) in
               other (sym (callee_place z j d at) ∙ ap (place z.callee.blocks) same ∙ callee_place z 0 (entry_block z).0 (entry_block z).1))
       by (inr (inr (r, o, q_is, at_r, c_is))) =
-          inl (r, o, at_r, ap (λ (y : Block). y.number) c_is, (λ k. times (new z d.number) (targets (c_is k).end)) ∙ copied_targets z o d.number (block_below z.callee d.number (number_there z.callee j d at)))
+          inl (r, o, at_r, ap (λ (y : Block). y.number) c_is, (λ k. times (new z d.number) (successors (c_is k).end)) ∙ copied_targets z o d.number (block_below z.callee d.number (number_there z.callee j d at)))
 
   copied_phi : (j : ℕ) (d : Block) → slice_get z.callee.blocks j ≡ Some d → (p : Phi) → IsRight z.callee (phi_item j p) → IsRight g (phi_item (n + suc j) (phi_edited (new z) (inner_op z) p))
   copied_phi j d at p h =

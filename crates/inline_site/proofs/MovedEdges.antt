@@ -5,7 +5,7 @@ use Rattle.std.proofs.lemmas.Bool.{eqb-true, eqb-false, eq-eqb, ne_eqb}
 use Rattle.std.proofs.lemmas.List.Elements.{All-head, All-map, All-tail}
 use Rattle.std.proofs.lemmas.List.Recursion.{is_count_by}
 use Rattle.std.proofs.lemmas.Option.{get_or_from_slice_get, slice_get-map, slice_get_within}
-use Rattle.ir_tree.specs.Flow.{edges, targets}
+use Rattle.ir_tree.specs.Flow.{edges, successors}
 use Rattle.ir_tree.specs.Formed.{Distinct, IsBlock, numbers}
 use Rattle.ir_tree.specs.Rules.{OnEdges, place}
 use Rattle.ir_tree.specs.declared.block.Block.{Block}
@@ -81,7 +81,7 @@ module _ (g : Function) (differ : Distinct (numbers_in g.blocks)) where
 
   -- as many entries name each block as edges lead from it
   pub on_edges_by : (j : ℕ) (b : Block) → slice_get g.blocks j ≡ Some b → (es : List Incoming) → All (λ e. IsBlock g e.from) es
-      → ((q : ℕ) (c : Block) → slice_get g.blocks q ≡ Some c → times c.number (sources es) ≡ times b.number (targets c.end))
+      → ((q : ℕ) (c : Block) → slice_get g.blocks q ≡ Some c → times c.number (sources es) ≡ times b.number (successors c.end))
       → ((k l : ℕ) (e d : Incoming) → slice_get es k ≡ Some e → slice_get es l ≡ Some d → e.from ≡ d.from → e.value ≡ d.value) → OnEdges g j es
   on_edges_by j b at es there many same = record { each = λ q. each q (slice_get g.blocks q) refl; equal = same }
     where
@@ -97,8 +97,8 @@ module _ (g : Function) (differ : Distinct (numbers_in g.blocks)) where
 -- a block of the new function is one that stood in the old, under its new number, and leads to one as often as it did, or no entry names it and it doesn't lead there
 abbrev pub Leads : Function → (ℕ → ℕ) → ℕ → ℕ → Block → Type 0
 Leads f block from to c =
-    ((i : ℕ) × (a : Block) × (slice_get f.blocks i ≡ Some a) × (c.number ≡ block a.number) × (times to (targets c.end) ≡ times from (targets a.end)))
-    ⊎ (((x : ℕ) → IsBlock f x → block x ≡ c.number → ⊥) × (times to (targets c.end) ≡ 0))
+    ((i : ℕ) × (a : Block) × (slice_get f.blocks i ≡ Some a) × (c.number ≡ block a.number) × (times to (successors c.end) ≡ times from (successors a.end)))
+    ⊎ (((x : ℕ) → IsBlock f x → block x ≡ c.number → ⊥) × (times to (successors c.end) ≡ 0))
 
 pub on_edges_moved : (f g : Function) → Distinct (numbers_in f.blocks) → Distinct (numbers_in g.blocks) → (block : ℕ → ℕ) (op : Operand → Operand)
     → ((x y : ℕ) → IsBlock f x → IsBlock f y → block x ≡ block y → x ≡ y) → ((x : ℕ) → IsBlock f x → IsBlock g (block x))
@@ -112,7 +112,7 @@ on_edges_moved f g differ differ' block op apart there i j a b at_i at_j leads e
     number_there : (r : ℕ) (c : Block) → slice_get f.blocks r ≡ Some c → IsBlock f c.number
     number_there r c at = holds_in c.number (numbers f) (r, number_at f.blocks r c at)
 
-    many : (c : Block) → Leads f block a.number b.number c → times c.number (sources (map (incoming_edited block op) es)) ≡ times b.number (targets c.end)
+    many : (c : Block) → Leads f block a.number b.number c → times c.number (sources (map (incoming_edited block op) es)) ≡ times b.number (successors c.end)
     many c (inl (r, o, at, number, same)) =
         ap (λ (n : ℕ). times n (sources (map (incoming_edited block op) es))) number
         ∙ as_often f block op o.number (λ x x_there e. apart x o.number x_there (number_there r o at) e) es sources'

@@ -2,7 +2,7 @@
 use Rattle.std.proofs.Common.{◌≡◌, ℕ, zero, suc, ◌+◌, ◌<◌, List, [], ◌∷◌, ◌++◌, Some, map, length, refl, sym, ◌∙◌, subst, arith, append-nil}
 use Rattle.std.specs.Prelude.{All, slice_get}
 use Rattle.std.proofs.lemmas.List.Elements.{All-append, All-cons, All-head, All-map, All-nil, All-tail, All-weaker}
-use Rattle.ir_tree.specs.Flow.{targets}
+use Rattle.ir_tree.specs.Flow.{successors}
 use Rattle.ir_tree.specs.Formed.{ArgumentFormed, IsBlock, ItemFormed}
 use Rattle.ir_tree.specs.Items.{Item, phi_item, line_item, end_item, block_items, end_reads, items_from, lines_from, phi_reads, reads, taken, typed}
 use Rattle.ir_tree.specs.Rules.{EndTypes, HasType, IsNoPhi, IsThere, IsThereAtEnd, Keeps, OnEdges, place}
@@ -161,7 +161,7 @@ module _ (f g : Function) (number : ℕ → ℕ) (op : Operand → Operand) (fix
     record {
       operands = subst (λ (as' : List Argument). All (ArgumentFormed g) as') (sym all) (All-weaker (Given g (IsThereAtEnd g j)) (ArgumentFormed g) (λ a t. t.0) (map (argument_edited op) (end_reads t)) given);
       sources = All-nil (λ e. IsBlock g e.from);
-      kind = (cases_formed number op t h.0.kind.0, subst (λ (l : List ℕ). All (IsBlock g) l) (sym (targets_edited number op t)) (All-map (IsBlock g) number (targets t) (λ k d lt. (led k d lt).0)));
+      kind = (cases_formed number op t h.0.kind.0, subst (λ (l : List ℕ). All (IsBlock g) l) (sym (targets_edited number op t)) (All-map (IsBlock g) number (successors t) (λ k d lt. (led k d lt).0)));
     },
     keeps,
   )
@@ -176,11 +176,11 @@ module _ (f g : Function) (number : ℕ → ℕ) (op : Operand → Operand) (fix
           let there : All (λ a. IsThereAtEnd f i a.operand) (end_reads t) = (h.1 NotAvailable).0 in
           all_edited (Given f (IsThereAtEnd f i)) (Given g (IsThereAtEnd g j)) op step (end_reads t) (λ m d lt. (formed m d lt, typed m d lt, there m d lt))
 
-      led : All (λ n. IsBlock g (number n) × (place g.blocks (number n) ≡ 0 → ⊥)) (targets t)
+      led : All (λ n. IsBlock g (number n) × (place g.blocks (number n) ≡ 0 → ⊥)) (successors t)
       led =
-          let blocks : All (IsBlock f) (targets t) = h.0.kind.1 in
-          let others : All (λ n. place f.blocks n ≡ 0 → ⊥) (targets t) = h.1 EntryBranch in
-          All-weaker (λ n. IsBlock f n × (place f.blocks n ≡ 0 → ⊥)) (λ n. IsBlock g (number n) × (place g.blocks (number n) ≡ 0 → ⊥)) leads (targets t) (λ k d lt. (blocks k d lt, others k d lt))
+          let blocks : All (IsBlock f) (successors t) = h.0.kind.1 in
+          let others : All (λ n. place f.blocks n ≡ 0 → ⊥) (successors t) = h.1 EntryBranch in
+          All-weaker (λ n. IsBlock f n × (place f.blocks n ≡ 0 → ⊥)) (λ n. IsBlock g (number n) × (place g.blocks (number n) ≡ 0 → ⊥)) leads (successors t) (λ k d lt. (blocks k d lt, others k d lt))
 
       keeps : (rule : Rule) → Keeps g rule (end_item j (end_edited number op t))
       keeps TypeMismatch = (subst (λ (as' : List Argument). All (HasType g) as') (sym all) (All-weaker (Given g (IsThereAtEnd g j)) (HasType g) (λ a t. t.1) (map (argument_edited op) (end_reads t)) given), types)
@@ -190,7 +190,7 @@ module _ (f g : Function) (number : ℕ → ℕ) (op : Operand → Operand) (fix
       )
       keeps PhiEdges = tt
       keeps PhiPlace = tt
-      keeps EntryBranch = subst (λ (l : List ℕ). All (λ n. place g.blocks n ≡ 0 → ⊥) l) (sym (targets_edited number op t)) (All-map (λ n. place g.blocks n ≡ 0 → ⊥) number (targets t) (λ k d lt. (led k d lt).1))
+      keeps EntryBranch = subst (λ (l : List ℕ). All (λ n. place g.blocks n ≡ 0 → ⊥) l) (sym (targets_edited number op t)) (All-map (λ n. place g.blocks n ≡ 0 → ⊥) number (successors t) (λ k d lt. (led k d lt).1))
       keeps Index = tt
       keeps Cast = tt
       keeps CaseTwice = end_differs number op t (h.1 CaseTwice)

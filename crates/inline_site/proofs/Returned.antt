@@ -3,7 +3,7 @@ use Rattle.std.proofs.Common.{◌≡◌, ℕ, zero, suc, ◌+◌, ◌<◌, ◌�
 use Rattle.std.specs.Prelude.{All, slice_get}
 use Rattle.std.proofs.lemmas.Bool.{eq-eqb, ne_eqb}
 use Rattle.std.proofs.lemmas.Option.{slice_get-get_or}
-use Rattle.ir_tree.specs.Flow.{locals, targets}
+use Rattle.ir_tree.specs.Flow.{locals, successors}
 use Rattle.ir_tree.specs.Formed.{Distinct, IsBlock, numbers}
 use Rattle.ir_tree.specs.Rules.{EndTypes, OnEdges, place}
 use Rattle.ir_tree.specs.declared.block.Block.{Block}
@@ -122,7 +122,7 @@ module _ (z : Inlining) (reg : Reg) (result : z.callee.result ≡ Some reg) wher
           by t e h = subst (EndTypes z.callee) e h
 
   -- a block leads behind the call as often as it returns a value
-  leads_back : (j : ℕ) (d : Block) → slice_get z.callee.blocks j ≡ Some d → times (behind z) (targets (inner z d).end) ≡ values d.end
+  leads_back : (j : ℕ) (d : Block) → slice_get z.callee.blocks j ≡ Some d → times (behind z) (successors (inner z d).end) ≡ values d.end
   leads_back j d at = by d.end refl ((in_block (IsRight z.callee) j d (items_right z.callee z.sound' j d at)).end.1 TypeMismatch).1
     where
       never_behind : (ts : List ℕ) → ((x : ℕ) → 1 ≤ times x ts → x < first_free z.callee) → times (behind z) (map (new z) ts) ≡ 0
@@ -131,12 +131,12 @@ module _ (z : Inlining) (reg : Reg) (result : z.callee.result ≡ Some reg) wher
           ap (λ (b : Bool). if b then suc (times (behind z) (map (new z) ts)) else times (behind z) (map (new z) ts)) (ne_eqb (new z t) (behind z) (new_not_behind z t (h t (here t t ts refl))))
           ∙ never_behind ts (λ x some. h x (later x t ts some))
 
-      others : (t : Terminator) → d.end ≡ t → targets (end_leading (behind z) (end_edited (new z) (inner_op z) t)) ≡ map (new z) (targets t) → times (behind z) (targets (end_leading (behind z) (end_edited (new z) (inner_op z) t))) ≡ 0
+      others : (t : Terminator) → d.end ≡ t → successors (end_leading (behind z) (end_edited (new z) (inner_op z) t)) ≡ map (new z) (successors t) → times (behind z) (successors (end_leading (behind z) (end_edited (new z) (inner_op z) t))) ≡ 0
       others t is e =
           ap (times (behind z)) e
-          ∙ never_behind (targets t) (λ x some. block_below z.callee x (targets_right z.callee z.sound' j d at x (subst (λ (u : Terminator). 1 ≤ times x (targets u)) (sym is) some)))
+          ∙ never_behind (successors t) (λ x some. block_below z.callee x (targets_right z.callee z.sound' j d at x (subst (λ (u : Terminator). 1 ≤ times x (successors u)) (sym is) some)))
 
-      by : (t : Terminator) → d.end ≡ t → EndTypes z.callee t → times (behind z) (targets (end_leading (behind z) (end_edited (new z) (inner_op z) t))) ≡ values t
+      by : (t : Terminator) → d.end ≡ t → EndTypes z.callee t → times (behind z) (successors (end_leading (behind z) (end_edited (new z) (inner_op z) t))) ≡ values t
       by (Return (Some a)) is h = ap (λ (b : Bool). if b then 1 else 0) (eq-eqb (behind z) (behind z) refl)
       by (Return None) is h = let none : None ≡ Some reg = h ∙ result in absurd (cc none)
       by (Jump target) is h = others (Jump target) is refl
@@ -164,7 +164,7 @@ module _ (z : Inlining) (reg : Reg) (result : z.callee.result ≡ Some reg) wher
       (λ k l e d at_k at_l same. equal e d same (returned (new z) (inner_op z) z.callee.blocks e (k, at_k)) (returned (new z) (inner_op z) z.callee.blocks d (l, at_l)))
     where
       many : (q : ℕ) (c : Block) → slice_get (made z).blocks q ≡ Some c → ((i : ℕ) × (b : Block) × Finishes z i b q c) ⊎ (IsFirst z q c ⊎ InCopy z q c)
-          → times c.number (sources (return_entries (copied_with z.op z.f z.callee z.arguments))) ≡ times (behind z) (targets c.end)
+          → times c.number (sources (return_entries (copied_with z.op z.f z.callee z.arguments))) ≡ times (behind z) (successors c.end)
       many q c at (inl (i, b, s)) = none_from c.number (λ j d at_j e. away i b s d (number_there z.callee j d at_j) e (named_cases z.s.block.number (behind z) b.number)) ∙ sym none
         where
           away : (i : ℕ) (b : Block) → Finishes z i b q c → (d : Block) → IsBlock z.callee d.number → new z d.number ≡ c.number
@@ -176,9 +176,9 @@ module _ (z : Inlining) (reg : Reg) (result : z.callee.result ≡ Some reg) wher
               let past : first_free z.f ≤ new z d.number = new_past z d.number in
               omega (arith, same, lt, past)
 
-          none : times (behind z) (targets c.end) ≡ 0
-          none = (λ k. times (behind z) (targets (s.end k))) ∙ ap (times (behind z)) (outer_targets z b.end) ∙ old_targets z i b s.old (behind z) (behind_past z)
-      many q c at (inr (inl (q_is, c_is))) = none_from c.number (λ j d at_j e. away d (e ∙ ap (λ (x : Block). x.number) c_is)) ∙ sym ((λ k. times (behind z) (targets (c_is k).end)) ∙ first_not_behind z)
+          none : times (behind z) (successors c.end) ≡ 0
+          none = (λ k. times (behind z) (successors (s.end k))) ∙ ap (times (behind z)) (outer_targets z b.end) ∙ old_targets z i b s.old (behind z) (behind_past z)
+      many q c at (inr (inl (q_is, c_is))) = none_from c.number (λ j d at_j e. away d (e ∙ ap (λ (x : Block). x.number) c_is)) ∙ sym ((λ k. times (behind z) (successors (c_is k).end)) ∙ first_not_behind z)
         where
           away : (d : Block) → new z d.number ≡ z.s.block.number → ⊥
           away d same =
@@ -188,7 +188,7 @@ module _ (z : Inlining) (reg : Reg) (result : z.callee.result ≡ Some reg) wher
       many q c at (inr (inr (j, d, q_is, at_j, c_is))) =
           (λ k. times (c_is k).number (sources (return_entries (copied_with z.op z.f z.callee z.arguments))))
           ∙ entries_count (new z) (inner_op z) (copied_apart (first_free z.f) z.callee) z.callee.blocks (apart z.callee z.sound'.formed) j d at_j
-          ∙ sym ((λ k. times (behind z) (targets (c_is k).end)) ∙ leads_back j d at_j)
+          ∙ sym ((λ k. times (behind z) (successors (c_is k).end)) ∙ leads_back j d at_j)
 
       equal : (e d : Incoming) → e.from ≡ d.from → IsReturned (new z) (inner_op z) z.callee.blocks e → IsReturned (new z) (inner_op z) z.callee.blocks d → e.value ≡ d.value
       equal e d same (i, b, a, at_i, b_end, e_is) (j, c, v, at_j, c_end, d_is) =

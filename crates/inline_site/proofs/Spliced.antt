@@ -28,7 +28,7 @@ use Rattle.ir_edit.proofs.Tally.{tally, tally_both, tally_same}
 use Rattle.ir_meaning.specs.Formed.{IsFormed}
 use Rattle.ir_meaning.specs.Inline as law
 use Rattle.ir_meaning.specs.Inline.{CanInline, EdgesBelow, below, block_renamed, blocks_moved, blocks_renamed, edges_renamed, first_part, inlined_blocks, join_phis, moved, phis_renamed, second_part}
-use Rattle.ir_meaning.specs.Needed.{AllKept, Reads}
+use Rattle.ir_meaning.specs.Needed.{AllKept, UsesKept}
 use Rattle.ir_meaning.specs.Renumber.{block_renumbered, incoming_renumbered, operand_renumbered, param_renumbered, phi_renumbered, renumbered}
 use Rattle.ir_meaning.proofs.Between.InARow.{in_a_row}
 use Rattle.ir_meaning.proofs.Inlining.Inlined.{inlined_is_better}
@@ -181,11 +181,11 @@ module _ (f callee : Function) (place : ℕ) (s : Site) (as' : List Argument) (s
   pub lines_fit : LinesFit free (s.before ++ s.call ∷ s.after)
   lines_fit = subst (LinesFit free) at.lines block_fits.lines
 
-  pub call_fits : LocalBelow free s.call.local × Reads (below free) s.call.instr
+  pub call_fits : LocalBelow free s.call.local × UsesKept (below free) s.call.instr
   call_fits = let h = lines_back free s.before (s.call ∷ s.after) lines_fit in (h.0, h.1)
 
   arguments_kept : AllKept (below free) as'
-  arguments_kept = (subst (Reads (below free)) is.direct call_fits.1).1
+  arguments_kept = (subst (UsesKept (below free)) is.direct call_fits.1).1
 
   once : tally s.block.number (map (λ b. b.number) (s.front ++ s.block ∷ s.back)) ≤ 1
   once =

@@ -3,9 +3,9 @@ use Rattle.std.proofs.Common.{◌≡◌, ℕ, ◌-◌, nat_eq, Bool, true, false
 use Rattle.std.specs.Prelude.{codes}
 use Rattle.std.specs.List.{fold}
 use Rattle.std.proofs.lemmas.List.{append-nil}
-use Rattle.ir_lex.specs.declared.head.Head.TheVariants as heads
-use Rattle.ir_lex.specs.declared.token.Kind.TheVariants as kinds
-use Rattle.ir_lex.specs.Heads.{number}
+use Rattle.ir_lex.specs.declared.token_kind.TokenKind.TheVariants as kinds
+use Rattle.ir_lex.specs.declared.token.TokenForm.TheVariants as forms
+use Rattle.ir_lex.specs.TokenKinds.{number}
 use Rattle.ir_lex.specs.Tok.{Tok}
 use Rattle.ir_read.specs.Alphabet.{among, contains}
 use Rattle.ir_read.specs.Chained.{Chain}
@@ -38,7 +38,7 @@ use Rattle.ir_bodies.proofs.SuccessiveRules.{successive_lawful}
 -- ---- labels
 
 abbrev zero_label : Tok
-zero_label = sample kinds.Label heads.Label (codes "0:")
+zero_label = sample forms.Label kinds.Label (codes "0:")
 
 zero_named : named zero_label ≡ Some zero_label
 unfolding named
@@ -59,7 +59,7 @@ written_label_rule = rules.valued_rule tokens refusal not_number not_limit LABEL
   where
     within : (t : Tok) → among tokens LABEL t ≡ true → named t ≡ None → IsWithin tokens LABEL named t
     within t p q =
-        let e : number t.head ≡ number heads.Label = only (number t.head) (number heads.Label) p in
+        let e : number t.kind ≡ number kinds.Label = only (number t.kind) (number kinds.Label) p in
         record { writes = ap (contains NUMERALS) e; other = zero_label; means = zero_label; alike = sym e; has = zero_named; real = label_real }
 
 label_rule : Rule tokens label any_label label_at LABEL [] false
@@ -73,7 +73,7 @@ lines_rule room = rules.seq tokens (rules.many tokens LINE room line_rule line_o
 
 -- what may go on behind a block
 abbrev pub BEHIND_BLOCK : List ℕ
-BEHIND_BLOCK = number heads.OpenParen ∷ number heads.Comma ∷ []
+BEHIND_BLOCK = number kinds.OpenParen ∷ number kinds.Comma ∷ []
 
 block_behind_rule : (room : ℕ) (name : Option Tok) → Rule tokens (block_behind room name) (any_block_behind room name) (block_behind_at room name) (LINE ++ ENDS) BEHIND_BLOCK false
 unfolding block_behind any_block_behind block_behind_at
@@ -120,8 +120,8 @@ further_blocks_rule : (further room : ℕ) → Rule tokens (Successive block fur
 further_blocks_rule further room = record {
   law = widened tokens (among tokens BLOCK) (among tokens (BEHIND_BLOCK ++ BLOCK))
       (successive_lawful tokens at_will (λ s. refl) block any_block block_at (among tokens BLOCK) (among tokens BLOCK) (among tokens BEHIND_BLOCK) (λ s. (block_rule s).law) (λ t u n m. ap (contains BLOCK) (sym m)) (λ t d. d)
-      (λ t p q. apart_from BEHIND_BLOCK BLOCK refl (number t.head) p q) block_opens further room)
-      (λ t d. d) (λ t d. contains-append BEHIND_BLOCK BLOCK (number t.head) (or_parts _ _ d));
+      (λ t p q. apart_from BEHIND_BLOCK BLOCK refl (number t.kind) p q) block_opens further room)
+      (λ t d. d) (λ t d. contains-append BEHIND_BLOCK BLOCK (number t.kind) (or_parts _ _ d));
 }
 
 blocks_rule : (further instructions : ℕ) → Rule tokens (blocks further instructions) (any_blocks instructions) (blocks_at further instructions) BLOCK (BEHIND_BLOCK ++ BLOCK) false
@@ -141,7 +141,7 @@ definition_rule room =
 
 pub definition_opens : Opens tokens DEFINE any_definition
 unfolding any_definition
-definition_opens = rules.opens_seq tokens DEFINE (the heads.Define) (the_opens heads.Define)
+definition_opens = rules.opens_seq tokens DEFINE (the kinds.Define) (the_opens kinds.Define)
     (λ _. rules.seq tokens (head_rule roles.Definition 0)
     (λ h. rules.seq tokens definition_attributes_rule
     (λ k. rules.seq tokens open_brace_rule (λ _. rules.seq tokens (blocks_rule FURTHER_BLOCKS INSTRUCTIONS) (λ bs. rules.seq tokens close_brace_rule (λ _. rules.nothing tokens _) refl) refl) refl)

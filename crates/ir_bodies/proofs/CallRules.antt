@@ -1,8 +1,8 @@
 -- The readers of calls read them.
 use Rattle.std.proofs.Common.{◌≡◌, ℕ, Bool, true, false, cond, nat_eq, Option, Some, None, List, [], ◌∷◌, ◌++◌, refl}
 use Rattle.std.specs.Prelude.{codes}
-use Rattle.ir_lex.specs.declared.head.Head.TheVariants as heads
-use Rattle.ir_lex.specs.Heads.{number}
+use Rattle.ir_lex.specs.declared.token_kind.TokenKind.TheVariants as kinds
+use Rattle.ir_lex.specs.TokenKinds.{number}
 use Rattle.ir_lex.specs.Tok.{Tok}
 use Rattle.ir_tree.specs.declared.operand.Reg.{Reg}
 use Rattle.ir_tree.specs.declared.operand.Reg.TheVariants.{Ptr}
@@ -39,7 +39,7 @@ convention_rule = rules.alt tokens CONVENTION convention_word_rule parameter_att
 
 convention_opens : Opens tokens CONVENTIONS convention
 unfolding convention
-convention_opens = rules.opens_either tokens CONVENTION PARAMETER (the heads.CallingConvention) parameter_attribute (the_opens heads.CallingConvention) parameter_attribute_opens
+convention_opens = rules.opens_either tokens CONVENTION PARAMETER (the kinds.CallingConvention) parameter_attribute (the_opens kinds.CallingConvention) parameter_attribute_opens
 
 conventions_rule : Rule tokens conventions conventions conventions_at CONVENTIONS CONVENTIONS true
 unfolding conventions conventions_at
@@ -48,7 +48,7 @@ conventions_rule = rules.seq tokens (rules.star tokens CONVENTIONS convention_ru
 -- ---- written types
 
 written_type_rule : Rule tokens written_type written_type written_type_at REG [] false
-written_type_rule = rules.among_rule tokens type_refusal type_not_number type_not_limit REG itself (word heads.MemoryInteger (codes "i32")) refl int_32_real
+written_type_rule = rules.among_rule tokens type_refusal type_not_number type_not_limit REG itself (word kinds.MemoryInteger (codes "i32")) refl int_32_real
 
 pub further_type_rule : Rule tokens further_type further_type further_type_at COMMA [] false
 unfolding further_type further_type_at
@@ -56,19 +56,19 @@ further_type_rule = rules.seq tokens comma_rule (λ _. written_type_rule) refl
 
 further_type_opens : Opens tokens COMMA further_type
 unfolding further_type
-further_type_opens = rules.opens_seq tokens COMMA (the heads.Comma) (the_opens heads.Comma) (λ _. written_type_rule)
+further_type_opens = rules.opens_seq tokens COMMA (the kinds.Comma) (the_opens kinds.Comma) (λ _. written_type_rule)
 
 some_types_rule : Rule tokens some_types some_types some_types_at REG COMMA false
 unfolding some_types some_types_at types_behind_at
 some_types_rule = rules.seq tokens written_type_rule (λ first. rules.seq tokens (rules.star tokens COMMA further_type_rule further_type_opens refl refl) (λ _. rules.nothing tokens _) refl) refl
 
-end_of_none_rule : Rule tokens end_of_none end_of_none end_of_none_at (number heads.CloseParen ∷ []) [] false
+end_of_none_rule : Rule tokens end_of_none end_of_none end_of_none_at (number kinds.CloseParen ∷ []) [] false
 unfolding is_class
-end_of_none_rule = rules.class_rule tokens type_refusal type_not_number type_not_limit (number heads.CloseParen) (mark heads.CloseParen (codes ")")) refl close_paren_real
+end_of_none_rule = rules.class_rule tokens type_refusal type_not_number type_not_limit (number kinds.CloseParen) (mark kinds.CloseParen (codes ")")) refl close_paren_real
 
 -- what stands in brackets begins with
 abbrev LISTED : List ℕ
-LISTED = number heads.CloseParen ∷ REG
+LISTED = number kinds.CloseParen ∷ REG
 
 listed_types_rule : Rule tokens listed_types listed_types listed_types_at LISTED [] false
 unfolding listed_types listed_types_at
@@ -94,7 +94,7 @@ further_argument_rule = rules.seq tokens comma_rule (λ _. argument_rule) refl
 
 further_argument_opens : Opens tokens COMMA (further_argument any_shape)
 unfolding further_argument
-further_argument_opens = rules.opens_seq tokens COMMA (the heads.Comma) (the_opens heads.Comma) (λ _. argument_rule)
+further_argument_opens = rules.opens_seq tokens COMMA (the kinds.Comma) (the_opens kinds.Comma) (λ _. argument_rule)
 
 some_arguments_rule : Rule tokens (some_arguments memory_shape) (some_arguments any_shape) some_arguments_at REG COMMA false
 unfolding some_arguments some_arguments_at arguments_behind_at
@@ -143,17 +143,17 @@ neither true k l p q e = p e
 neither false k l p q e = q e
 
 marker_not_number : (n : ℕ) → marker_refusal n ≡ Number → ⊥
-marker_not_number n e = neither (nat_eq n (number heads.LifetimeMarker)) (refusal n) Number (λ x. cc) (not_number n) e
+marker_not_number n e = neither (nat_eq n (number kinds.LifetimeMarker)) (refusal n) Number (λ x. cc) (not_number n) e
 
 marker_not_limit : (n : ℕ) → marker_refusal n ≡ Limit → ⊥
-marker_not_limit n e = neither (nat_eq n (number heads.LifetimeMarker)) (refusal n) Limit (λ x. cc) (not_limit n) e
+marker_not_limit n e = neither (nat_eq n (number kinds.LifetimeMarker)) (refusal n) Limit (λ x. cc) (not_limit n) e
 
 unmarked_rule : Rule tokens unmarked unmarked unmarked_at POINTER_OPERAND [] false
-unmarked_rule = rules.valued_rule tokens marker_refusal marker_not_number marker_not_limit POINTER_OPERAND (operand_of Ptr) (λ t p q. operand_within Ptr t.head t refl p q) (word heads.Null (codes "null")) operands.Null refl refl null_real
+unmarked_rule = rules.valued_rule tokens marker_refusal marker_not_number marker_not_limit POINTER_OPERAND (operand_of Ptr) (λ t p q. operand_within Ptr t.kind t refl p q) (word kinds.Null (codes "null")) operands.Null refl refl null_real
 
 -- what is called begins with
 abbrev CALLEE : List ℕ
-CALLEE = number heads.LifetimeMarker ∷ OPERAND
+CALLEE = number kinds.LifetimeMarker ∷ OPERAND
 
 called_value_rule : Rule tokens (called_value memory_shape) (called_value any_shape) called_value_at OPERAND [] false
 unfolding called_value called_value_at
@@ -180,7 +180,7 @@ CALLED = CONVENTIONS ++ RESULT
 
 -- what may go on behind a call
 abbrev pub BEHIND_CALL : List ℕ
-BEHIND_CALL = number heads.OpenParen ∷ number heads.Comma ∷ number heads.Equals ∷ CALL
+BEHIND_CALL = number kinds.OpenParen ∷ number kinds.Comma ∷ number kinds.Equals ∷ CALL
 
 pub calling_rule : (named : Bool) → Rule tokens (calling memory_shape named) (calling any_shape named) (calling_at named) CALLED BEHIND_CALL false
 unfolding calling calling_at
@@ -195,6 +195,6 @@ calling_rule named = rules.broader tokens CALLED BEHIND_CALL
     refl) refl) refl) refl) refl) refl)
     refl refl
 
-pub tail_calling_rule : (named : Bool) → Rule tokens (tail_calling memory_shape named) (tail_calling any_shape named) (tail_calling_at named) (number heads.Call ∷ []) BEHIND_CALL false
+pub tail_calling_rule : (named : Bool) → Rule tokens (tail_calling memory_shape named) (tail_calling any_shape named) (tail_calling_at named) (number kinds.Call ∷ []) BEHIND_CALL false
 unfolding tail_calling tail_calling_at
 tail_calling_rule named = rules.broader tokens _ BEHIND_CALL (rules.seq tokens call_word_rule (λ _. calling_rule named) refl) refl refl

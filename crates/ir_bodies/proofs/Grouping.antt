@@ -1,6 +1,6 @@
 -- Blocks and definitions, read as calls read them.
 use Rattle.std.proofs.Common.{◌≡◌, ℕ, List, [], ◌∷◌, ◌++◌, Result, Ok, Err, refl, sym, ap, ◌∙◌, append_assoc}
-use Rattle.ir_lex.specs.declared.head.Head.TheVariants as heads
+use Rattle.ir_lex.specs.declared.token_kind.TokenKind.TheVariants as kinds
 use Rattle.ir_lex.specs.Tok.{Tok}
 use Rattle.ir_read.specs.Alphabet.{among}
 use Rattle.ir_read.specs.declared.fault.Fault.{Fault}
@@ -10,7 +10,7 @@ use Rattle.ir_read.specs.Classes.{tokens, the_at}
 use Rattle.ir_heads.specs.declared.attributes.Kept.{Kept}
 use Rattle.ir_heads.specs.declared.function_heads.Role.TheVariants as roles
 use Rattle.ir_read.specs.declared.raw.Block.{Block}
-use Rattle.ir_read.specs.declared.raw.Head.{Head}
+use Rattle.ir_read.specs.declared.raw.FunctionHeader.{FunctionHeader}
 use Rattle.ir_read.specs.declared.raw.Item.{Item}
 use Rattle.ir_read.specs.declared.raw.Item.TheVariants.{Definition}
 use Rattle.ir_heads.specs.FunctionHeadsAt.{head_at}
@@ -40,50 +40,50 @@ blocks_is front further instructions ts = by_first (block_at instructions ts)
     by_first (Ok x) = by_others x.0.0 (further_blocks_at further x.0.1 x.1)
     by_first (Err e) = refl
 
-pub braced_is : (front : List Block) (ts : List Tok) → joined_at front braced_at ts ≡ follow (the_at heads.OpenBrace ts) (λ _. joined_at front (blocks_at FURTHER_BLOCKS INSTRUCTIONS) >>= λ bs. the_at heads.CloseBrace >>= λ _. done bs)
-braced_is front ts = by_open (the_at heads.OpenBrace ts)
+pub braced_is : (front : List Block) (ts : List Tok) → joined_at front braced_at ts ≡ follow (the_at kinds.OpenBrace ts) (λ _. joined_at front (blocks_at FURTHER_BLOCKS INSTRUCTIONS) >>= λ bs. the_at kinds.CloseBrace >>= λ _. done bs)
+braced_is front ts = by_open (the_at kinds.OpenBrace ts)
   where
     by_close : (bs : List Block) (r : Result (Unit {0} × List Tok) Fault) → follow (follow r (λ _. done bs)) (λ bs. done (front ++ bs)) ≡ follow r (λ _. done (front ++ bs))
     by_close bs (Ok x) = refl
     by_close bs (Err e) = refl
 
-    by_blocks : (r : Result (List Block × List Tok) Fault) → follow (follow r (λ bs. the_at heads.CloseBrace >>= λ _. done bs)) (λ bs. done (front ++ bs)) ≡ follow (follow r (λ bs. done (front ++ bs))) (λ bs. the_at heads.CloseBrace >>= λ _. done bs)
-    by_blocks (Ok x) = by_close x.0 (the_at heads.CloseBrace x.1)
+    by_blocks : (r : Result (List Block × List Tok) Fault) → follow (follow r (λ bs. the_at kinds.CloseBrace >>= λ _. done bs)) (λ bs. done (front ++ bs)) ≡ follow (follow r (λ bs. done (front ++ bs))) (λ bs. the_at kinds.CloseBrace >>= λ _. done bs)
+    by_blocks (Ok x) = by_close x.0 (the_at kinds.CloseBrace x.1)
     by_blocks (Err e) = refl
 
     by_open : (r : Result (Unit {0} × List Tok) Fault)
-        → follow (follow r (λ _. blocks_at FURTHER_BLOCKS INSTRUCTIONS >>= λ bs. the_at heads.CloseBrace >>= λ _. done bs)) (λ bs. done (front ++ bs)) ≡ follow r (λ _. joined_at front (blocks_at FURTHER_BLOCKS INSTRUCTIONS) >>= λ bs. the_at heads.CloseBrace >>= λ _. done bs)
+        → follow (follow r (λ _. blocks_at FURTHER_BLOCKS INSTRUCTIONS >>= λ bs. the_at kinds.CloseBrace >>= λ _. done bs)) (λ bs. done (front ++ bs)) ≡ follow r (λ _. joined_at front (blocks_at FURTHER_BLOCKS INSTRUCTIONS) >>= λ bs. the_at kinds.CloseBrace >>= λ _. done bs)
     by_open (Ok x) = by_blocks (blocks_at FURTHER_BLOCKS INSTRUCTIONS x.1)
     by_open (Err e) = refl
 
-abbrev pub defined_by : Head → Reader Tok Item
+abbrev pub defined_by : FunctionHeader → Reader Tok Item
 defined_by h = braced_at >>= λ bs. done (Definition h bs)
 
-defined_is : (h : Head) (ts : List Tok) → defined_at h ts ≡ defined_by h ts
-defined_is h ts = by_open (the_at heads.OpenBrace ts)
+defined_is : (h : FunctionHeader) (ts : List Tok) → defined_at h ts ≡ defined_by h ts
+defined_is h ts = by_open (the_at kinds.OpenBrace ts)
   where
     by_close : (bs : List Block) (r : Result (Unit {0} × List Tok) Fault) → follow r (λ _. done (Definition h bs)) ≡ follow (follow r (λ _. done bs)) (λ bs. done (Definition h bs))
     by_close bs (Ok x) = refl
     by_close bs (Err e) = refl
 
-    by_blocks : (r : Result (List Block × List Tok) Fault) → follow r (λ bs. the_at heads.CloseBrace >>= λ _. done (Definition h bs)) ≡ follow (follow r (λ bs. the_at heads.CloseBrace >>= λ _. done bs)) (λ bs. done (Definition h bs))
-    by_blocks (Ok x) = by_close x.0 (the_at heads.CloseBrace x.1)
+    by_blocks : (r : Result (List Block × List Tok) Fault) → follow r (λ bs. the_at kinds.CloseBrace >>= λ _. done (Definition h bs)) ≡ follow (follow r (λ bs. the_at kinds.CloseBrace >>= λ _. done bs)) (λ bs. done (Definition h bs))
+    by_blocks (Ok x) = by_close x.0 (the_at kinds.CloseBrace x.1)
     by_blocks (Err e) = refl
 
     by_open : (r : Result (Unit {0} × List Tok) Fault)
-        → follow r (λ _. blocks_at FURTHER_BLOCKS INSTRUCTIONS >>= λ bs. the_at heads.CloseBrace >>= λ _. done (Definition h bs)) ≡ follow (follow r (λ _. blocks_at FURTHER_BLOCKS INSTRUCTIONS >>= λ bs. the_at heads.CloseBrace >>= λ _. done bs)) (λ bs. done (Definition h bs))
+        → follow r (λ _. blocks_at FURTHER_BLOCKS INSTRUCTIONS >>= λ bs. the_at kinds.CloseBrace >>= λ _. done (Definition h bs)) ≡ follow (follow r (λ _. blocks_at FURTHER_BLOCKS INSTRUCTIONS >>= λ bs. the_at kinds.CloseBrace >>= λ _. done bs)) (λ bs. done (Definition h bs))
     by_open (Ok x) = by_blocks (blocks_at FURTHER_BLOCKS INSTRUCTIONS x.1)
     by_open (Err e) = refl
 
 pub definition_is : (room : ℕ) (ts : List Tok) → definition_at room ts ≡ follow (heading_at room ts) defined_by
 unfolding definition_at
-definition_is room ts = by_define (the_at heads.Define ts)
+definition_is room ts = by_define (the_at kinds.Define ts)
   where
-    by_kept : (h : Head) (r : Result (Kept × List Tok) Fault) → follow r (λ k. defined_at (with_kept h k)) ≡ follow (follow r (λ k. done (with_kept h k))) defined_by
+    by_kept : (h : FunctionHeader) (r : Result (Kept × List Tok) Fault) → follow r (λ k. defined_at (with_kept h k)) ≡ follow (follow r (λ k. done (with_kept h k))) defined_by
     by_kept h (Ok x) = defined_is (with_kept h x.0) x.1
     by_kept h (Err e) = refl
 
-    by_head : (r : Result (Head × List Tok) Fault) → follow r (λ h. definition_attributes_at >>= λ k. defined_at (with_kept h k)) ≡ follow (follow r (λ h. definition_attributes_at >>= λ k. done (with_kept h k))) defined_by
+    by_head : (r : Result (FunctionHeader × List Tok) Fault) → follow r (λ h. definition_attributes_at >>= λ k. defined_at (with_kept h k)) ≡ follow (follow r (λ h. definition_attributes_at >>= λ k. done (with_kept h k))) defined_by
     by_head (Ok x) = by_kept x.0 (definition_attributes_at x.1)
     by_head (Err e) = refl
 
@@ -97,7 +97,7 @@ definition_is room ts = by_define (the_at heads.Define ts)
 abbrev put_behind : List Item → Item → Reader Tok (List Item)
 put_behind front x = done (front ++ x ∷ [])
 
-pub pushed_defined : (front : List Item) (h : Head) (ts : List Tok) → pushed_at front (defined_at h) ts ≡ follow (joined_at [] braced_at ts) (λ bs. done (front ++ Definition h bs ∷ []))
+pub pushed_defined : (front : List Item) (h : FunctionHeader) (ts : List Tok) → pushed_at front (defined_at h) ts ≡ follow (joined_at [] braced_at ts) (λ bs. done (front ++ Definition h bs ∷ []))
 pushed_defined front h ts = ap (λ (r : Result (Item × List Tok) Fault). follow r (put_behind front)) (defined_is h ts) ∙ by_blocks (braced_at ts)
   where
     by_blocks : (r : Result (List Block × List Tok) Fault) → follow (follow r (λ bs. done (Definition h bs))) (put_behind front) ≡ follow (follow r (λ bs. done ([] ++ bs))) (λ bs. done (front ++ Definition h bs ∷ []))
@@ -107,6 +107,6 @@ pushed_defined front h ts = ap (λ (r : Result (Item × List Tok) Fault). follow
 pub pushed_definition : (front : List Item) (room : ℕ) (ts : List Tok) → pushed_at front (definition_at room) ts ≡ follow (heading_at room ts) (λ h. pushed_at front (defined_at h))
 pushed_definition front room ts = ap (λ (r : Result (Item × List Tok) Fault). follow r (put_behind front)) (definition_is room ts) ∙ by_head (heading_at room ts)
   where
-    by_head : (r : Result (Head × List Tok) Fault) → follow (follow r defined_by) (put_behind front) ≡ follow r (λ h. pushed_at front (defined_at h))
+    by_head : (r : Result (FunctionHeader × List Tok) Fault) → follow (follow r defined_by) (put_behind front) ≡ follow r (λ h. pushed_at front (defined_at h))
     by_head (Ok x) = ap (λ (r : Result (Item × List Tok) Fault). follow r (put_behind front)) (sym (defined_is x.0 x.1))
     by_head (Err e) = refl

@@ -1,8 +1,8 @@
 -- The readers of instructions and lines read them.
 use Rattle.std.proofs.Common.{◌≡◌, ℕ, Bool, true, false, cond, ◌&&◌, not, nat_lt, Option, Some, None, List, [], ◌∷◌, ◌++◌, Result, Ok, Err, refl, ap, ◌∙◌, sym}
 use Rattle.std.specs.Prelude.{codes}
-use Rattle.ir_lex.specs.declared.head.Head.TheVariants as heads
-use Rattle.ir_lex.specs.Heads.{number}
+use Rattle.ir_lex.specs.declared.token_kind.TokenKind.TheVariants as kinds
+use Rattle.ir_lex.specs.TokenKinds.{number}
 use Rattle.ir_lex.specs.Quotes.{stripped}
 use Rattle.ir_lex.specs.Tok.{Tok}
 use Rattle.ir_read.specs.Alphabet.{among}
@@ -45,7 +45,7 @@ good_is t u e = cc
 
 named_is : (t u : Tok) → named t ≡ Some u → t ≡ u
 unfolding named
-named_is t u e = by_test (is_numeral (stripped t.kind t.text) && not (nat_lt (decimal (stripped t.kind t.text)) 4294967296)) e
+named_is t u e = by_test (is_numeral (stripped t.form t.text) && not (nat_lt (decimal (stripped t.form t.text)) 4294967296)) e
   where
     by_test : (b : Bool) → cond b None (Some t) ≡ Some u → t ≡ u
     by_test true e = absurd cc
@@ -60,7 +60,7 @@ any_name classes (t ∷ []) a s = by_test (among tokens classes t) s
     by_name None q e = absurd cc
     by_name (Some u) q e = ap good (named_is t u q ∙ good_is u a e)
 
-    by_test : (b : Bool) → cond b (in_range (named t)) (Err (refusal (number t.head))) ≡ good a → cond b (good t) (Err (refusal (number t.head))) ≡ good a
+    by_test : (b : Bool) → cond b (in_range (named t)) (Err (refusal (number t.kind))) ≡ good a → cond b (good t) (Err (refusal (number t.kind))) ≡ good a
     by_test true e = by_name (named t) refl e
     by_test false e = absurd cc
 any_name classes (t ∷ u ∷ ts) a s = absurd s
@@ -75,7 +75,7 @@ any_local_rule = record { law = with_wide tokens local_rule.law (λ ts a s. any_
 
 -- what it begins with
 abbrev BEGUN : List ℕ
-BEGUN = number heads.Nsw ∷ number heads.Exact ∷ number heads.Disjoint ∷ number heads.Samesign ∷ number heads.Nneg ∷ number heads.Call ∷ PREDICATES ++ (STEPPED ++ (REG ++ CALLED))
+BEGUN = number kinds.Nsw ∷ number kinds.Exact ∷ number kinds.Disjoint ∷ number kinds.Samesign ∷ number kinds.Nneg ∷ number kinds.Call ∷ PREDICATES ++ (STEPPED ++ (REG ++ CALLED))
 
 operation_rule : (o : Operation) → Rule tokens (operation memory_shape o) (operation any_shape o) (operation_at o) BEGUN [] false
 operation_rule (operations.Wrapping op) = rules.broader tokens BEGUN [] (wrapping_rule op) refl refl
@@ -102,9 +102,9 @@ behind_rule named opcodes.Call = rules.broader tokens BEGUN BEHIND_CALL (calling
 
 -- ---- lines
 
-line_behind_rule : (name : Tok) → Rule tokens (line_behind slots_fit memory_shape name) (line_behind any_slots any_shape name) (line_behind_at name) (number heads.Equals ∷ []) BEHIND_CALL false
+line_behind_rule : (name : Tok) → Rule tokens (line_behind slots_fit memory_shape name) (line_behind any_slots any_shape name) (line_behind_at name) (number kinds.Equals ∷ []) BEHIND_CALL false
 unfolding line_behind line_behind_at
-line_behind_rule name = rules.seq tokens equals_rule (λ _. rules.seq tokens (one_rule GIVING opcode_of (word heads.Add (codes "add")) refl add_real) (λ o. rules.seq tokens (behind_rule true o) (λ i. rules.nothing tokens (lined (Some name) name.line i)) refl) refl) refl
+line_behind_rule name = rules.seq tokens equals_rule (λ _. rules.seq tokens (one_rule GIVING opcode_of (word kinds.Add (codes "add")) refl add_real) (λ o. rules.seq tokens (behind_rule true o) (λ i. rules.nothing tokens (lined (Some name) name.line i)) refl) refl) refl
 
 named_line_rule : Rule tokens (named_line local slots_fit memory_shape) (named_line any_local any_slots any_shape) named_line_at LOCAL BEHIND_CALL false
 unfolding named_line named_line_at
@@ -112,7 +112,7 @@ named_line_rule = rules.seq tokens any_local_rule line_behind_rule refl
 
 plain_line_rule : Rule tokens (plain_line slots_fit memory_shape) (plain_line any_slots any_shape) plain_line_at OPCODES BEHIND_CALL false
 unfolding plain_line plain_line_at
-plain_line_rule = rules.seq tokens (one_rule OPCODES begun_of (word heads.Add (codes "add")) refl add_real) (λ b. rules.seq tokens (behind_rule false b.opcode) (λ i. rules.nothing tokens (lined None b.line i)) refl) refl
+plain_line_rule = rules.seq tokens (one_rule OPCODES begun_of (word kinds.Add (codes "add")) refl add_real) (λ b. rules.seq tokens (behind_rule false b.opcode) (λ i. rules.nothing tokens (lined None b.line i)) refl) refl
 
 pub line_rule : Rule tokens (line local slots_fit memory_shape) (line any_local any_slots any_shape) line_at LINE BEHIND_CALL false
 unfolding line line_at

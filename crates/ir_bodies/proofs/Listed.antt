@@ -4,7 +4,7 @@ use Rattle.ir_lex.specs.Tok.{Tok}
 use Rattle.ir_read.specs.declared.fault.Fault.{Fault}
 use Rattle.ir_read.specs.Readers.{Reader, done, follow, ◌>>=◌}
 use Rattle.ir_read.specs.declared.raw.Instr.{Instr}
-use Rattle.ir_read.specs.declared.raw.Line.{Line}
+use Rattle.ir_read.specs.declared.raw.WrittenLine.{WrittenLine}
 use Rattle.ir_read.specs.MetadataAt.{attachments_at}
 use Rattle.ir_operands.specs.declared.listing.Listing.{Listing}
 use Rattle.ir_operands.specs.Listing.{put, put_at}
@@ -34,6 +34,6 @@ attended_listed l f ts = by_read (f ts)
     by_attached i (Err e) = refl
 
     by_read : (r : Result (Instr × List Tok) Fault)
-        → follow (follow (follow r (λ i. attachments_at >>= λ _. done (Some i))) (λ i. done (lined l.name l.line i))) (λ x. done (keep l.lines.items x)) ≡ follow {B = List Line} (follow r (λ i. done (put l i))) (λ lines. attachments_at >>= λ _. done lines)
+        → follow (follow (follow r (λ i. attachments_at >>= λ _. done (Some i))) (λ i. done (lined l.name l.line i))) (λ x. done (keep l.lines.items x)) ≡ follow {B = List WrittenLine} (follow r (λ i. done (put l i))) (λ lines. attachments_at >>= λ _. done lines)
     by_read (Ok x) = by_attached x.0 (attachments_at x.1)
     by_read (Err e) = refl

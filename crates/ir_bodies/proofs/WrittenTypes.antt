@@ -2,11 +2,11 @@
 use Rattle.std.proofs.Common.{◌≡◌, ℕ, zero, suc, ◌+◌, ◌<◌, ◌≤◌, Bool, true, false, cond, ◌&&◌, not, nat_eq, nat_lt, max, min, List, [], ◌∷◌, ◌++◌, length, drop, refl, sym, subst, arith}
 use Rattle.std.specs.Prelude.{codes, ◌/◌, ◌%◌}
 use Rattle.ir_lex.specs.Bytes.{has}
-use Rattle.ir_lex.specs.declared.head.Head.TheVariants as heads
+use Rattle.ir_lex.specs.declared.token_kind.TokenKind.TheVariants as kinds
 use Rattle.ir_lex.specs.declared.rows.Fit.{Fit}
-use Rattle.ir_lex.specs.declared.token.Kind.{Kind}
-use Rattle.ir_lex.specs.declared.token.Kind.TheVariants as kinds
-use Rattle.ir_lex.specs.Heads.{number, head_of, word_head, listed_head, words_2, words_3, width_of}
+use Rattle.ir_lex.specs.declared.token.TokenForm.{TokenForm}
+use Rattle.ir_lex.specs.declared.token.TokenForm.TheVariants as forms
+use Rattle.ir_lex.specs.TokenKinds.{number, kind_of, word_kind, listed_kind, words_2, words_3, width_of}
 use Rattle.ir_lex.specs.Lexing.{is_bad}
 use Rattle.ir_lex.specs.Quotes.{is_zero_name}
 use Rattle.ir_lex.specs.Rows.{best_fit, rest_fit, fit, label_len, number_len, word_len, name_len, meta_len, dots_len, other_len, string_len}
@@ -36,18 +36,18 @@ abbrev written : ℕ → List ℕ
 written n = 105 ∷ digits n
 
 abbrev integer : ℕ → Tok
-integer n = word (head_of kinds.Word (written n) []) (written n)
+integer n = word (kind_of forms.Word (written n) []) (written n)
 
-abbrev is_word : Kind → Bool
-is_word kinds.Word = true
+abbrev is_word : TokenForm → Bool
+is_word forms.Word = true
 is_word k = false
 
-word_is : (k : Kind) → is_word k ≡ true → k ≡ kinds.Word
-word_is kinds.Word e = refl
+word_is : (k : TokenForm) → is_word k ≡ true → k ≡ forms.Word
+word_is forms.Word e = refl
 word_is k e = absurd cc
 
-fit_is : (f : Fit) (k : Kind) (n : ℕ) → f.kind ≡ k → f.len ≡ n → f ≡ fit k n
-fit_is f k n p q = subst (λ (x : Kind). f ≡ fit x n) p (subst (λ (m : ℕ). f ≡ fit f.kind m) q refl)
+fit_is : (f : Fit) (k : TokenForm) (n : ℕ) → f.form ≡ k → f.len ≡ n → f ≡ fit k n
+fit_is f k n p q = subst (λ (x : TokenForm). f ≡ fit x n) p (subst (λ (m : ℕ). f ≡ fit f.form m) q refl)
 
 -- a test of each number from 1 to one
 abbrev all_to : (ℕ → Bool) → ℕ → Bool
@@ -76,7 +76,7 @@ abbrev has_bytes : ℕ → Bool
 has_bytes n = nat_lt 0 (length (written n))
 
 abbrev fits_word : ℕ → Bool
-fits_word n = is_word (best_fit (written n ++ [])).kind
+fits_word n = is_word (best_fit (written n ++ [])).form
 
 abbrev fits_whole : ℕ → Bool
 fits_whole n = nat_eq (best_fit (written n ++ [])).len (length (written n))
@@ -106,11 +106,11 @@ unfolding best_fit rest_fit label_len number_len word_len name_len meta_len dots
 all_are_good = refl
 
 all_have_classes : all_to has_class 64 ≡ true
-unfolding head_of word_head listed_head words_2 words_3 has
+unfolding kind_of word_kind listed_kind words_2 words_3 has
 all_have_classes = refl
 
 all_have_widths : all_to has_width 64 ≡ true
-unfolding head_of word_head listed_head words_2 words_3 has
+unfolding kind_of word_kind listed_kind words_2 words_3 has
 all_have_widths = refl
 
 not_so : (b : Bool) → not b ≡ true → b ≡ false
@@ -125,7 +125,7 @@ integer_written n lt le = record {
   real = record {
     behind = [];
     some = holds_at has_bytes 64 n all_have_bytes lt le;
-    fits = fit_is (best_fit (written n ++ [])) kinds.Word (length (written n)) (word_is (best_fit (written n ++ [])).kind (holds_at fits_word 64 n all_fit_words lt le)) (equal (best_fit (written n ++ [])).len (length (written n)) (holds_at fits_whole 64 n all_fit_whole lt le));
+    fits = fit_is (best_fit (written n ++ [])) forms.Word (length (written n)) (word_is (best_fit (written n ++ [])).form (holds_at fits_word 64 n all_fit_words lt le)) (equal (best_fit (written n ++ [])).len (length (written n)) (holds_at fits_whole 64 n all_fit_whole lt le));
     good = not_so (is_bad (written n ++ [])) (holds_at is_good 64 n all_are_good lt le);
     class = refl;
   };
@@ -140,8 +140,8 @@ most_width m = omega arith
 -- ---- any type that a token writes
 
 pub writes : (w : Tok) → Writes (reg_of w)
-writes w = by_test (nat_eq (number w.head) (number heads.Ptr))
+writes w = by_test (nat_eq (number w.kind) (number kinds.Ptr))
   where
     by_test : (b : Bool) → Writes (cond b Ptr (Int (width w)))
-    by_test true = record { it = word heads.Ptr (codes "ptr"); is_reg = refl; same = refl; real = pointer_real }
+    by_test true = record { it = word kinds.Ptr (codes "ptr"); is_reg = refl; same = refl; real = pointer_real }
     by_test false = integer_written (width w) (some_width (width_of (drop 1 w.text))) (most_width (width_of (drop 1 w.text)))

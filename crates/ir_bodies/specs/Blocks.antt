@@ -2,8 +2,8 @@
 -- handed down, so that no reading goes on with the first token of the one too many.
 use Rattle.std.specs.Prelude.{ℕ, ◌-◌, Bool, true, Option, Some, None, List, [], ◌∷◌, ◌++◌, length}
 use Rattle.std.specs.List.{fold}
-use Rattle.ir_lex.specs.declared.head.Head.TheVariants as heads
-use Rattle.ir_lex.specs.Heads.{number}
+use Rattle.ir_lex.specs.declared.token_kind.TokenKind.TheVariants as kinds
+use Rattle.ir_lex.specs.TokenKinds.{number}
 use Rattle.ir_lex.specs.Tok.{Tok}
 use Rattle.ir_read.specs.Chained.{Chain}
 use Rattle.ir_read.specs.Forms.{Form, ◌>>=◌, either, gives, token, Many, Star}
@@ -14,10 +14,10 @@ use Rattle.ir_read.specs.Classes.{tokens, refusal, the, one_of, itself}
 use Rattle.ir_heads.specs.declared.attributes.Kept.{Kept}
 use Rattle.ir_heads.specs.declared.function_heads.Role.TheVariants as roles
 use Rattle.ir_read.specs.declared.raw.Block.{Block}
-use Rattle.ir_read.specs.declared.raw.Head.{Head}
+use Rattle.ir_read.specs.declared.raw.FunctionHeader.{FunctionHeader}
 use Rattle.ir_read.specs.declared.raw.Item.{Item}
 use Rattle.ir_read.specs.declared.raw.Item.TheVariants.{Definition}
-use Rattle.ir_read.specs.declared.raw.Line.{Line}
+use Rattle.ir_read.specs.declared.raw.WrittenLine.{WrittenLine}
 use Rattle.ir_instructions.specs.declared.terminators.Ended.{Ended}
 use Rattle.ir_heads.specs.FunctionHeads.{head, any_head}
 use Rattle.ir_read.specs.Operands.{LOCAL, local, named}
@@ -29,7 +29,7 @@ use Rattle.ir_bodies.specs.Successive.{Successive}
 -- ---- labels
 
 abbrev pub LABEL : List ℕ
-LABEL = number heads.Label ∷ []
+LABEL = number kinds.Label ∷ []
 
 abbrev pub label : Form Tok Tok
 label = token (is_valued tokens refusal LABEL named)
@@ -48,12 +48,12 @@ keep front None = front
 keep front (Some x) = front ++ x ∷ []
 
 -- {[Local =] instr {att}}, so many at most: those that are kept, and how many more there may be behind them
-unfoldable pub lines : ℕ → Form Tok (List Line × ℕ)
+unfoldable pub lines : ℕ → Form Tok (List WrittenLine × ℕ)
 lines room = do
   ls ← Many (line local slots_fit memory_shape) room
   gives (fold keep [] ls, room - length ls)
 
-abbrev pub block_of : Option Tok → List Line → Ended → Block
+abbrev pub block_of : Option Tok → List WrittenLine → Ended → Block
 block_of name ls e = record { label = name; lines = ls; end = e.terminator; end_line = e.line }
 
 -- {[Local =] instr {att}} term {att}, behind the label
@@ -72,7 +72,7 @@ block room = either
     (block_behind room None)
 
 -- the same without limits
-unfoldable pub any_lines : ℕ → Form Tok (List Line × ℕ)
+unfoldable pub any_lines : ℕ → Form Tok (List WrittenLine × ℕ)
 any_lines room = do
   ls ← Star (line any_local any_slots any_shape)
   gives (fold keep [] ls, room - length ls)
@@ -116,26 +116,26 @@ FURTHER_BLOCKS = 65534
 unfoldable pub INSTRUCTIONS : ℕ
 INSTRUCTIONS = 200000
 
-abbrev pub with_kept : Head → Kept → Head
+abbrev pub with_kept : FunctionHeader → Kept → FunctionHeader
 with_kept h k = record { linkage = h.linkage; result = h.result; name = h.name; params = h.params; noinline = k.noinline; optnone = k.optnone; groups = k.groups }
 
 -- define head { block {block} }; so many parameters at most behind the first
 unfoldable pub definition : ℕ → Form Tok Item
 definition room = do
-  _ ← the heads.Define
+  _ ← the kinds.Define
   h ← head roles.Definition room
   k ← definition_attributes
-  _ ← the heads.OpenBrace
+  _ ← the kinds.OpenBrace
   bs ← blocks FURTHER_BLOCKS INSTRUCTIONS
-  _ ← the heads.CloseBrace
+  _ ← the kinds.CloseBrace
   gives (Definition (with_kept h k) bs)
 
 unfoldable pub any_definition : Form Tok Item
 any_definition = do
-  _ ← the heads.Define
+  _ ← the kinds.Define
   h ← any_head roles.Definition
   k ← definition_attributes
-  _ ← the heads.OpenBrace
+  _ ← the kinds.OpenBrace
   bs ← any_blocks INSTRUCTIONS
-  _ ← the heads.CloseBrace
+  _ ← the kinds.CloseBrace
   gives (Definition (with_kept h k) bs)

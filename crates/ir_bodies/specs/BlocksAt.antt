@@ -1,8 +1,8 @@
 -- What the readers of blocks and definitions give.
 use Rattle.std.specs.Prelude.{ℕ, ◌-◌, Option, Some, None, List, [], ◌∷◌, ◌++◌, length}
 use Rattle.std.specs.List.{fold}
-use Rattle.ir_lex.specs.declared.head.Head.TheVariants as heads
-use Rattle.ir_lex.specs.Heads.{number}
+use Rattle.ir_lex.specs.declared.token_kind.TokenKind.TheVariants as kinds
+use Rattle.ir_lex.specs.TokenKinds.{number}
 use Rattle.ir_lex.specs.Tok.{Tok}
 use Rattle.ir_read.specs.Alphabet.{among}
 use Rattle.ir_read.specs.Readers.{Reader, ◌>>=◌, done, pick, many_at, optional_at, token_at}
@@ -11,10 +11,10 @@ use Rattle.ir_heads.specs.AttributesAt.{definition_attributes_at}
 use Rattle.ir_read.specs.Classes.{tokens, refusal, the_at}
 use Rattle.ir_heads.specs.declared.function_heads.Role.TheVariants as roles
 use Rattle.ir_read.specs.declared.raw.Block.{Block}
-use Rattle.ir_read.specs.declared.raw.Head.{Head}
+use Rattle.ir_read.specs.declared.raw.FunctionHeader.{FunctionHeader}
 use Rattle.ir_read.specs.declared.raw.Item.{Item}
 use Rattle.ir_read.specs.declared.raw.Item.TheVariants.{Definition}
-use Rattle.ir_read.specs.declared.raw.Line.{Line}
+use Rattle.ir_read.specs.declared.raw.WrittenLine.{WrittenLine}
 use Rattle.ir_heads.specs.FunctionHeadsAt.{head_at}
 use Rattle.ir_read.specs.Operands.{named}
 use Rattle.ir_instructions.specs.Terminators.{ENDS}
@@ -35,23 +35,23 @@ label_at = token_at (is_valued tokens refusal LABEL named)
 abbrev pub maybe_label_at : Reader Tok (Option Tok)
 maybe_label_at = optional_at (among tokens LABEL) label_at
 
-abbrev pub all_lines_at : ℕ → Reader Tok (List (Option Line))
+abbrev pub all_lines_at : ℕ → Reader Tok (List (Option WrittenLine))
 all_lines_at = many_at (among tokens LINE) line_at
 
 -- the lines that are kept, and how many more there may be
-unfoldable pub lines_at : ℕ → Reader Tok (List Line × ℕ)
+unfoldable pub lines_at : ℕ → Reader Tok (List WrittenLine × ℕ)
 lines_at room = do
   ls ← all_lines_at room
   done (fold keep [] ls, room - length ls)
 
 -- the lines that are kept, behind those before them, and how many more there may be
-abbrev pub lines_from_at : ℕ → List Line → Reader Tok (List Line × ℕ)
+abbrev pub lines_from_at : ℕ → List WrittenLine → Reader Tok (List WrittenLine × ℕ)
 lines_from_at room front = do
   ls ← all_lines_at room
   done (fold keep front ls, room - length ls)
 
 -- behind the lines
-abbrev pub ended_at : Option Tok → List Line → ℕ → Reader Tok (Block × ℕ)
+abbrev pub ended_at : Option Tok → List WrittenLine → ℕ → Reader Tok (Block × ℕ)
 ended_at name lines left = do
   e ← terminator_at
   done (block_of name lines e, left)
@@ -88,12 +88,12 @@ blocks_at further instructions = do
 
 -- what a definition begins with
 abbrev pub DEFINE : List ℕ
-DEFINE = number heads.Define ∷ []
+DEFINE = number kinds.Define ∷ []
 
 -- what stands before the braces
-abbrev pub heading_at : ℕ → Reader Tok Head
+abbrev pub heading_at : ℕ → Reader Tok FunctionHeader
 heading_at room = do
-  _ ← the_at heads.Define
+  _ ← the_at kinds.Define
   h ← head_at roles.Definition room
   k ← definition_attributes_at
   done (with_kept h k)
@@ -101,22 +101,22 @@ heading_at room = do
 -- the blocks in their braces
 abbrev pub braced_at : Reader Tok (List Block)
 braced_at = do
-  _ ← the_at heads.OpenBrace
+  _ ← the_at kinds.OpenBrace
   bs ← blocks_at FURTHER_BLOCKS INSTRUCTIONS
-  _ ← the_at heads.CloseBrace
+  _ ← the_at kinds.CloseBrace
   done bs
 
 -- behind the attributes of a head
-abbrev pub defined_at : Head → Reader Tok Item
+abbrev pub defined_at : FunctionHeader → Reader Tok Item
 defined_at h = do
-  _ ← the_at heads.OpenBrace
+  _ ← the_at kinds.OpenBrace
   bs ← blocks_at FURTHER_BLOCKS INSTRUCTIONS
-  _ ← the_at heads.CloseBrace
+  _ ← the_at kinds.CloseBrace
   done (Definition h bs)
 
 unfoldable pub definition_at : ℕ → Reader Tok Item
 definition_at room = do
-  _ ← the_at heads.Define
+  _ ← the_at kinds.Define
   h ← head_at roles.Definition room
   k ← definition_attributes_at
   defined_at (with_kept h k)

@@ -1,7 +1,7 @@
 -- Calls (LangRef, "call Instruction"), over what spells a shape.
 use Rattle.std.specs.Prelude.{ℕ, Bool, true, false, nat_eq, if◌then◌else◌, Option, Some, None, List, [], ◌∷◌}
-use Rattle.ir_lex.specs.declared.head.Head.TheVariants as heads
-use Rattle.ir_lex.specs.Heads.{number}
+use Rattle.ir_lex.specs.declared.token_kind.TokenKind.TheVariants as kinds
+use Rattle.ir_lex.specs.TokenKinds.{number}
 use Rattle.ir_lex.specs.Tok.{Tok}
 use Rattle.ir_tree.specs.declared.operand.Reg.{Reg}
 use Rattle.ir_tree.specs.declared.operand.Reg.TheVariants.{Int, Ptr}
@@ -25,7 +25,7 @@ use Rattle.ir_operands.specs.Values.{address, operand}
 
 -- fastcc / ccc / pattr
 unfoldable pub convention : Form Tok (Unit {0})
-convention = either (the heads.CallingConvention) parameter_attribute
+convention = either (the kinds.CallingConvention) parameter_attribute
 
 -- {fastcc / ccc / pattr}
 unfoldable pub conventions : Form Tok (Unit {0})
@@ -42,7 +42,7 @@ written_type = token (is_among tokens type_refusal REG itself)
 -- , reg
 unfoldable pub further_type : Form Tok Tok
 further_type = do
-  _ ← the heads.Comma
+  _ ← the kinds.Comma
   written_type
 
 -- reg {, reg}
@@ -57,7 +57,7 @@ unfoldable pub listed_types : Form Tok (List Tok)
 listed_types = either
     (do
       ws ← some_types
-      _ ← the heads.CloseParen
+      _ ← the kinds.CloseParen
       gives ws)
     (do
       _ ← end_of_none
@@ -66,7 +66,7 @@ listed_types = either
 -- ( [reg {, reg}] )
 unfoldable pub types : Form Tok (List Tok)
 types = do
-  _ ← the heads.OpenParen
+  _ ← the kinds.OpenParen
   listed_types
 
 -- ---- arguments
@@ -87,7 +87,7 @@ argument shape = do
 -- , reg {pattr} operand
 unfoldable pub further_argument : Form Tok Typed → Form Tok Argument
 further_argument shape = do
-  _ ← the heads.Comma
+  _ ← the kinds.Comma
   argument shape
 
 unfoldable pub some_arguments : Form Tok Typed → Form Tok (List Argument)
@@ -101,7 +101,7 @@ unfoldable pub any_arguments : Form Tok Typed → Form Tok (List Argument)
 any_arguments shape = either
     (do
       as' ← some_arguments shape
-      _ ← the heads.CloseParen
+      _ ← the kinds.CloseParen
       gives as')
     (do
       _ ← end_of_none
@@ -130,7 +130,7 @@ argument_of shape w = do
 
 unfoldable pub further_of : Form Tok Typed → Tok → Form Tok Argument
 further_of shape w = do
-  _ ← the heads.Comma
+  _ ← the kinds.Comma
   argument_of shape w
 
 -- {, arg}, one of each of these types in turn
@@ -150,11 +150,11 @@ some_of shape w ws = do
 -- [arg {, arg}] ), one of each of these types in turn
 abbrev pub arguments_of : Form Tok Typed → List Tok → Form Tok (List Argument)
 arguments_of shape [] = do
-  _ ← the heads.CloseParen
+  _ ← the kinds.CloseParen
   gives []
 arguments_of shape (w ∷ ws) = do
   as' ← some_of shape w ws
-  _ ← the heads.CloseParen
+  _ ← the kinds.CloseParen
   gives as'
 
 -- [arg {, arg}] ), of the types that are written, where they are
@@ -173,12 +173,12 @@ called_value shape = do
 -- a lifetime marker, whose call is dropped
 unfoldable pub marker : Form Tok (Option Operand)
 marker = do
-  _ ← the heads.LifetimeMarker
+  _ ← the kinds.LifetimeMarker
   gives None
 
 -- a lifetime marker is no part of the language that is left out where its call would be dropped, if it had no name
 abbrev pub marker_refusal : ℕ → TokenFault
-marker_refusal class = if nat_eq class (number heads.LifetimeMarker) then Syntax else refusal class
+marker_refusal class = if nat_eq class (number kinds.LifetimeMarker) then Syntax else refusal class
 
 abbrev pub unmarked : Form Tok Operand
 unmarked = token (is_valued tokens marker_refusal (classes_of Ptr) (operand_of Ptr))
@@ -208,7 +208,7 @@ calling shape named = do
   r ← result
   ws ← optional types
   f ← callee shape named r
-  _ ← the heads.OpenParen
+  _ ← the kinds.OpenParen
   as' ← arguments shape ws
   _ ← call_attributes
   _ ← attachments
@@ -217,5 +217,5 @@ calling shape named = do
 -- behind `tail` or `notail`
 unfoldable pub tail_calling : Form Tok Typed → Bool → Form Tok (Option Instr)
 tail_calling shape named = do
-  _ ← the heads.Call
+  _ ← the kinds.Call
   calling shape named

@@ -1,7 +1,7 @@
 -- What the readers of calls give.
 use Rattle.std.specs.Prelude.{ℕ, Bool, true, false, Option, Some, None, List, [], ◌∷◌, ◌++◌}
-use Rattle.ir_lex.specs.declared.head.Head.TheVariants as heads
-use Rattle.ir_lex.specs.Heads.{number}
+use Rattle.ir_lex.specs.declared.token_kind.TokenKind.TheVariants as kinds
+use Rattle.ir_lex.specs.TokenKinds.{number}
 use Rattle.ir_lex.specs.Tok.{Tok}
 use Rattle.ir_tree.specs.declared.operand.Reg.{Reg}
 use Rattle.ir_tree.specs.declared.operand.Reg.TheVariants.{Ptr}
@@ -21,17 +21,17 @@ use Rattle.ir_operands.specs.ValuesAt.{ADDRESS, address_at, operand_at}
 use Rattle.ir_bodies.specs.Calls.{is_type, marker_refusal, called}
 
 abbrev pub CONVENTION : List ℕ
-CONVENTION = number heads.CallingConvention ∷ []
+CONVENTION = number kinds.CallingConvention ∷ []
 
 -- what stands before the result of a call begins with
 abbrev pub CONVENTIONS : List ℕ
 CONVENTIONS = CONVENTION ++ PARAMETER
 
 abbrev pub MARKER : List ℕ
-MARKER = number heads.LifetimeMarker ∷ []
+MARKER = number kinds.LifetimeMarker ∷ []
 
 unfoldable pub convention_at : Reader Tok (Unit {0})
-convention_at = pick (among tokens CONVENTION) (the_at heads.CallingConvention) parameter_attribute_at
+convention_at = pick (among tokens CONVENTION) (the_at kinds.CallingConvention) parameter_attribute_at
 
 unfoldable pub conventions_at : Reader Tok (Unit {0})
 conventions_at = do
@@ -43,7 +43,7 @@ written_type_at = token_at (is_among tokens type_refusal REG itself)
 
 unfoldable pub further_type_at : Reader Tok Tok
 further_type_at = do
-  _ ← the_at heads.Comma
+  _ ← the_at kinds.Comma
   written_type_at
 
 -- those behind a first one
@@ -61,7 +61,7 @@ unfoldable pub listed_types_at : Reader Tok (List Tok)
 listed_types_at = pick (among tokens REG)
     (do
       ws ← some_types_at
-      _ ← the_at heads.CloseParen
+      _ ← the_at kinds.CloseParen
       done ws)
     (do
       _ ← end_of_none_at
@@ -69,7 +69,7 @@ listed_types_at = pick (among tokens REG)
 
 unfoldable pub types_at : Reader Tok (List Tok)
 types_at = do
-  _ ← the_at heads.OpenParen
+  _ ← the_at kinds.OpenParen
   listed_types_at
 
 unfoldable pub argument_behind_at : Reg → Reader Tok Argument
@@ -85,7 +85,7 @@ argument_at = do
 
 unfoldable pub further_argument_at : Reader Tok Argument
 further_argument_at = do
-  _ ← the_at heads.Comma
+  _ ← the_at kinds.Comma
   argument_at
 
 -- those behind a first one
@@ -103,7 +103,7 @@ unfoldable pub any_arguments_at : Reader Tok (List Argument)
 any_arguments_at = pick (among tokens REG)
     (do
       as' ← some_arguments_at
-      _ ← the_at heads.CloseParen
+      _ ← the_at kinds.CloseParen
       done as')
     (do
       _ ← end_of_none_at
@@ -119,7 +119,7 @@ argument_of_at w = do
 
 unfoldable pub further_of_at : Tok → Reader Tok Argument
 further_of_at w = do
-  _ ← the_at heads.Comma
+  _ ← the_at kinds.Comma
   argument_of_at w
 
 abbrev pub each_further_at : List Tok → Reader Tok (List Argument)
@@ -142,11 +142,11 @@ some_of_at w ws = do
 
 abbrev pub arguments_of_at : List Tok → Reader Tok (List Argument)
 arguments_of_at [] = do
-  _ ← the_at heads.CloseParen
+  _ ← the_at kinds.CloseParen
   done []
 arguments_of_at (w ∷ ws) = do
   as' ← some_of_at w ws
-  _ ← the_at heads.CloseParen
+  _ ← the_at kinds.CloseParen
   done as'
 
 abbrev pub arguments_at : Option (List Tok) → Reader Tok (List Argument)
@@ -160,7 +160,7 @@ called_value_at = do
 
 unfoldable pub marker_at : Reader Tok (Option Operand)
 marker_at = do
-  _ ← the_at heads.LifetimeMarker
+  _ ← the_at kinds.LifetimeMarker
   done None
 
 abbrev pub unmarked_at : Reader Tok Operand
@@ -189,7 +189,7 @@ called_at r f as' = do
 -- behind the callee
 abbrev pub calling_with_at : Option Reg → Option (List Tok) → Option Operand → Reader Tok (Option Instr)
 calling_with_at r ws f = do
-  _ ← the_at heads.OpenParen
+  _ ← the_at kinds.OpenParen
   as' ← arguments_at ws
   called_at r f as'
 
@@ -208,5 +208,5 @@ calling_at named = do
 
 unfoldable pub tail_calling_at : Bool → Reader Tok (Option Instr)
 tail_calling_at named = do
-  _ ← the_at heads.Call
+  _ ← the_at kinds.Call
   calling_at named

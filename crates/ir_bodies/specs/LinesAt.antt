@@ -1,7 +1,7 @@
 -- What the readers of instructions and lines give.
 use Rattle.std.specs.Prelude.{ℕ, Bool, true, false, Option, Some, None, List, ◌∷◌}
-use Rattle.ir_lex.specs.declared.head.Head.TheVariants as heads
-use Rattle.ir_lex.specs.Heads.{number}
+use Rattle.ir_lex.specs.declared.token_kind.TokenKind.TheVariants as kinds
+use Rattle.ir_lex.specs.TokenKinds.{number}
 use Rattle.ir_lex.specs.Tok.{Tok}
 use Rattle.ir_tree.specs.declared.instr.CastOp.TheVariants as casts
 use Rattle.ir_read.specs.Alphabet.{among}
@@ -9,7 +9,7 @@ use Rattle.ir_read.specs.Readers.{Reader, ◌>>=◌, done, pick}
 use Rattle.ir_instructions.specs.AddressingAt.{reserving_at, addressing_at}
 use Rattle.ir_read.specs.Classes.{tokens, the_at, one_of_at}
 use Rattle.ir_read.specs.declared.raw.Instr.{Instr}
-use Rattle.ir_read.specs.declared.raw.Line.{Line}
+use Rattle.ir_read.specs.declared.raw.WrittenLine.{WrittenLine}
 use Rattle.ir_instructions.specs.Instructions.{no_flags}
 use Rattle.ir_instructions.specs.InstructionsAt.{on_two_at, wrapping_at, dividing_at, joining_at, comparing_at, casting_at, extending_at, narrowing_at, selecting_at, freezing_at, loading_at, storing_at}
 use Rattle.ir_read.specs.MetadataAt.{attachments_at}
@@ -25,7 +25,7 @@ use Rattle.ir_bodies.specs.declared.opcodes.Operation.TheVariants as operations
 
 -- what a line begins with
 abbrev pub LINE : List ℕ
-LINE = number heads.Local ∷ OPCODES
+LINE = number kinds.Local ∷ OPCODES
 
 abbrev pub operation_at : Operation → Reader Tok Instr
 operation_at (operations.Wrapping op) = wrapping_at op
@@ -60,23 +60,23 @@ behind_at named opcodes.Store = some_at storing_at
 behind_at named opcodes.Tail = tail_calling_at named
 behind_at named opcodes.Call = calling_at named
 
-unfoldable pub line_behind_at : Tok → Reader Tok (Option Line)
+unfoldable pub line_behind_at : Tok → Reader Tok (Option WrittenLine)
 line_behind_at name = do
-  _ ← the_at heads.Equals
+  _ ← the_at kinds.Equals
   o ← one_of_at GIVING opcode_of
   i ← behind_at true o
   done (lined (Some name) name.line i)
 
-unfoldable pub named_line_at : Reader Tok (Option Line)
+unfoldable pub named_line_at : Reader Tok (Option WrittenLine)
 named_line_at = do
   n ← local_at
   line_behind_at n
 
-unfoldable pub plain_line_at : Reader Tok (Option Line)
+unfoldable pub plain_line_at : Reader Tok (Option WrittenLine)
 plain_line_at = do
   b ← one_of_at OPCODES begun_of
   i ← behind_at false b.opcode
   done (lined None b.line i)
 
-unfoldable pub line_at : Reader Tok (Option Line)
+unfoldable pub line_at : Reader Tok (Option WrittenLine)
 line_at = pick (among tokens LOCAL) named_line_at plain_line_at

@@ -1,10 +1,10 @@
 //! Reads basic blocks (LangRef, "Functions").
 
 ghost use Rattle.std.specs.Prelude.{◌≡◌, [], IfOk};
-ghost use Rattle.ir_lex.specs.Heads.{number};
+ghost use Rattle.ir_lex.specs.TokenKinds.{number};
 ghost use Rattle.ir_lex.specs.Tok.{tok};
 ghost use Rattle.ir_read.specs.Alphabet.{among, contains};
-ghost use Rattle.ir_read.specs.Readers.{Gives, next_is};
+ghost use Rattle.ir_read.specs.Readers.{Returns, next_is};
 ghost use Rattle.ir_read.specs.Rules.{is_valued};
 ghost use Rattle.ir_read.specs.Classes.{tokens, refusal};
 ghost use Rattle.ir_read.specs.Operands.{named};
@@ -16,9 +16,9 @@ ghost use Rattle.ir_bodies.specs.LinesAt.{LINE};
 
 use crate::lines::line_into;
 use ir_instructions::{Ended, terminator_into};
-use ir_lex::{Head, Token};
+use ir_lex::{Token, TokenKind};
 use ir_operands::{Listing, push};
-use ir_read::{Block, Fault, Name, ReadError, Terminator, TokenFault, Tokens, named, refusal};
+use ir_read::{Block, Fault, Name, ReaderError, Terminator, TokenFault, Tokens, named, refusal};
 use ir_tree::Rows;
 use std::alloc::{AllocError, Global};
 
@@ -97,91 +97,91 @@ impl Begun {
 fn label_means(alloc: Global, t: &Token) -> Result<Result<Name, TokenFault>, AllocError>
     ensures { IfOk result (λ x. x ≡ is_valued tokens refusal LABEL named (tok t.now)) }
 {
-    if t.head.is(Head::Label) {
+    if t.kind.is(TokenKind::Label) {
         match named(alloc, t)? {
             None => Ok(Err(TokenFault::Number)),
             Some(name) => Ok(Ok(name)),
         }
     } else {
-        Ok(Err(refusal(t.head)))
+        Ok(Err(refusal(t.kind)))
     }
 }
 
 /// Takes the label of a block.
-fn label_at(alloc: Global, tokens: &mut Tokens) -> Result<Name, ReadError>
-    ensures { Gives (λ x. (x, tokens.new)) result (label_at tokens.old) }
+fn label_at(alloc: Global, tokens: &mut Tokens) -> Result<Name, ReaderError>
+    ensures { Returns (λ x. (x, tokens.new)) result (label_at tokens.old) }
 {
     let left = tokens.left();
     match tokens.take() {
-        None => Err(ReadError::Fault(Fault {
+        None => Err(ReaderError::Fault(Fault {
             left,
             kind: TokenFault::Syntax,
         })),
         Some(t) => match label_means(alloc, &t)? {
             Ok(x) => Ok(x),
-            Err(kind) => Err(ReadError::Fault(Fault { left, kind })),
+            Err(kind) => Err(ReaderError::Fault(Fault { left, kind })),
         },
     }
 }
 
-/// Whether a token of this class begins an instruction, or the name of its result.
-fn begins_line(head: Head) -> bool
+/// Whether a token of this kind begins an instruction, or the name of its result.
+fn begins_line(head: TokenKind) -> bool
     ensures { result ≡ contains LINE (number head) }
 {
     matches!(
         head,
-        Head::Local
-            | Head::Store
-            | Head::Add
-            | Head::Sub
-            | Head::Mul
-            | Head::Shl
-            | Head::Udiv
-            | Head::Sdiv
-            | Head::Lshr
-            | Head::Ashr
-            | Head::Urem
-            | Head::Srem
-            | Head::And
-            | Head::Xor
-            | Head::Or
-            | Head::Icmp
-            | Head::Zext
-            | Head::Sext
-            | Head::Trunc
-            | Head::Select
-            | Head::Freeze
-            | Head::Phi
-            | Head::Alloca
-            | Head::Load
-            | Head::GetElementPtr
-            | Head::TailMark
-            | Head::Call
+        TokenKind::Local
+            | TokenKind::Store
+            | TokenKind::Add
+            | TokenKind::Sub
+            | TokenKind::Mul
+            | TokenKind::Shl
+            | TokenKind::Udiv
+            | TokenKind::Sdiv
+            | TokenKind::Lshr
+            | TokenKind::Ashr
+            | TokenKind::Urem
+            | TokenKind::Srem
+            | TokenKind::And
+            | TokenKind::Xor
+            | TokenKind::Or
+            | TokenKind::Icmp
+            | TokenKind::Zext
+            | TokenKind::Sext
+            | TokenKind::Trunc
+            | TokenKind::Select
+            | TokenKind::Freeze
+            | TokenKind::Phi
+            | TokenKind::Alloca
+            | TokenKind::Load
+            | TokenKind::GetElementPtr
+            | TokenKind::TailMark
+            | TokenKind::Call
     )
 }
 
-/// Whether a token of this class begins a terminator.
-fn begins_terminator(head: Head) -> bool
+/// Whether a token of this kind begins a terminator.
+fn begins_terminator(head: TokenKind) -> bool
     ensures { result ≡ contains ENDS (number head) }
 {
     matches!(
         head,
-        Head::Ret | Head::Br | Head::Switch | Head::Unreachable
+        TokenKind::Ret | TokenKind::Br | TokenKind::Switch | TokenKind::Unreachable
     )
 }
 
-/// Whether a token of this class begins a block.
-fn begins_block(head: Head) -> bool
+/// Whether a token of this kind begins a block.
+fn begins_block(head: TokenKind) -> bool
     ensures { result ≡ contains BLOCK (number head) }
 {
-    head.is(Head::Label) || begins_line(head) || begins_terminator(head)
+    head.is(TokenKind::Label) || begins_line(head) || begins_terminator(head)
 }
 
 /// Whether an instruction, or the name of its result, comes.
 fn comes_line(rest: &Tokens) -> bool
     ensures { result ≡ next_is (among tokens LINE) rest.now }
 {
-    match rest.head() {
+    match rest.kind() {
         Some(head) => begins_line(head),
         None => false,
     }
@@ -191,25 +191,25 @@ fn comes_line(rest: &Tokens) -> bool
 fn comes_block(rest: &Tokens) -> bool
     ensures { result ≡ next_is (among tokens BLOCK) rest.now }
 {
-    match rest.head() {
+    match rest.kind() {
         Some(head) => begins_block(head),
         None => false,
     }
 }
 
-/// Adds the lines of a block, of which there may be `room`. Gives how many more there may be.
+/// Adds the lines of a block, of which there may be `room`. Returns how many more there may be.
 fn lines_into(
     alloc: Global,
     room: usize,
     list: &mut Listing,
     tokens: &mut Tokens,
-) -> Result<usize, ReadError>
-    ensures { Gives (λ left. ((list.new.lines.items, left), tokens.new)) result (lines_from_at room list.old.lines.items tokens.old) }
+) -> Result<usize, ReaderError>
+    ensures { Returns (λ left. ((list.new.lines.items, left), tokens.new)) result (lines_from_at room list.old.lines.items tokens.old) }
 {
     let mut left = room;
     'each: while comes_line(tokens) {
         if left == 0 {
-            return Err(ReadError::Fault(Fault {
+            return Err(ReaderError::Fault(Fault {
                 left: tokens.left(),
                 kind: TokenFault::Limit,
             }));
@@ -221,10 +221,10 @@ fn lines_into(
 }
 
 /// Reads the label of a block, where it has one.
-fn maybe_label_at(alloc: Global, tokens: &mut Tokens) -> Result<Option<Name>, ReadError>
-    ensures { Gives (λ x. (x, tokens.new)) result (maybe_label_at tokens.old) }
+fn maybe_label_at(alloc: Global, tokens: &mut Tokens) -> Result<Option<Name>, ReaderError>
+    ensures { Returns (λ x. (x, tokens.new)) result (maybe_label_at tokens.old) }
 {
-    if tokens.comes(Head::Label) {
+    if tokens.comes(TokenKind::Label) {
         let label = label_at(alloc, tokens)?;
         Ok(Some(label))
     } else {
@@ -233,16 +233,16 @@ fn maybe_label_at(alloc: Global, tokens: &mut Tokens) -> Result<Option<Name>, Re
 }
 
 /// Reads a block: its label, where it has one, its lines, of which there may be `room`, and its
-/// terminator. Gives how many more lines there may be.
+/// terminator. Returns how many more lines there may be.
 #[tactic(auto, unfolding(crate::specs::BlocksAt::block_behind_at, crate::specs::BlocksAt::lines_at), using(crate::proofs::Grouping::block_is))]
 fn begun_into(
     alloc: Global,
     room: usize,
     begun: &mut Begun,
     tokens: &mut Tokens,
-) -> Result<usize, ReadError>
+) -> Result<usize, ReaderError>
     requires { begun.now.listing.lines.items ≡ [] }
-    ensures { Gives (λ left. ((block_of begun.new.label begun.new.listing.lines.items begun.new.ended, left), tokens.new)) result (block_at room tokens.old) }
+    ensures { Returns (λ left. ((block_of begun.new.label begun.new.listing.lines.items begun.new.ended, left), tokens.new)) result (block_at room tokens.old) }
 {
     begun.label = maybe_label_at(alloc, tokens)?;
     let left = lines_into(alloc, room, &mut begun.listing, tokens)?;
@@ -250,15 +250,15 @@ fn begun_into(
     Ok(left)
 }
 
-/// Reads a block, of which the function may have `room` instructions yet, and adds it. Gives how many
+/// Reads a block, of which the function may have `room` instructions yet, and adds it. Returns how many
 /// are left.
 fn block_into(
     alloc: Global,
     room: usize,
     blocks: &mut Blocks,
     tokens: &mut Tokens,
-) -> Result<usize, ReadError>
-    ensures { Gives (λ left. ((blocks.new.list.items, left), tokens.new)) result (added_at blocks.old.list.items (block_at room) tokens.old) }
+) -> Result<usize, ReaderError>
+    ensures { Returns (λ left. ((blocks.new.list.items, left), tokens.new)) result (added_at blocks.old.list.items (block_at room) tokens.old) }
 {
     let mut begun = Begun::new(alloc);
     let left = begun_into(alloc, room, &mut begun, tokens)?;
@@ -273,14 +273,14 @@ fn further_blocks_into(
     instructions: usize,
     blocks: &mut Blocks,
     tokens: &mut Tokens,
-) -> Result<(), ReadError>
-    ensures { Gives (λ _. (blocks.new.list.items, tokens.new)) result (blocks_from_at further instructions blocks.old.list.items tokens.old) }
+) -> Result<(), ReaderError>
+    ensures { Returns (λ _. (blocks.new.list.items, tokens.new)) result (blocks_from_at further instructions blocks.old.list.items tokens.old) }
 {
     let mut room = further;
     let mut left = instructions;
     'each: while comes_block(tokens) {
         if room == 0 {
-            return Err(ReadError::Fault(Fault {
+            return Err(ReaderError::Fault(Fault {
                 left: tokens.left(),
                 kind: TokenFault::Limit,
             }));
@@ -301,8 +301,8 @@ pub fn blocks_into(
     instructions: usize,
     blocks: &mut Blocks,
     tokens: &mut Tokens,
-) -> Result<(), ReadError>
-    ensures { Gives (λ _. (blocks.new.list.items, tokens.new)) result (joined_at blocks.old.list.items (blocks_at further instructions) tokens.old) }
+) -> Result<(), ReaderError>
+    ensures { Returns (λ _. (blocks.new.list.items, tokens.new)) result (joined_at blocks.old.list.items (blocks_at further instructions) tokens.old) }
 {
     let left = block_into(alloc, instructions, blocks, tokens)?;
     further_blocks_into(alloc, further, left, blocks, tokens)

@@ -4,7 +4,7 @@ ghost use Rattle.std.specs.Prelude.{◌≡◌, IfErr, IfOk, OnOk};
 ghost use Rattle.ir_lex.specs.Tok.{tok};
 ghost use Rattle.ir_read.specs.Alphabet.{among};
 ghost use Rattle.ir_tree.specs.declared.failure.Failure.TheVariants.{NoMemory};
-ghost use Rattle.ir_read.specs.Readers.{Gives, next_is};
+ghost use Rattle.ir_read.specs.Readers.{Returns, next_is};
 ghost use Rattle.ir_read.specs.Rules.{is_among, is_exact, is_valued};
 ghost use Rattle.ir_read.specs.Classes.{tokens, itself};
 ghost use Rattle.ir_read.specs.Operands.{IsReg, REG, type_refusal, reg_of, classes_of, operand_of};
@@ -18,10 +18,10 @@ ghost use Rattle.ir_bodies.specs.CallsAt.{CONVENTIONS, convention_at, convention
 use ir_heads::{
     call_attributes_at, end_of_none_at, parameter_attribute_at, parameter_attributes_at,
 };
-use ir_lex::{Head, Token};
+use ir_lex::{Token, TokenKind};
 use ir_operands::{Listing, address_at, operand_at, push};
 use ir_read::{
-    Argument, Fault, Instr, Name, Operand, ReadError, TokenFault, Tokens, attachments_at, done,
+    Argument, Fault, Instr, Name, Operand, ReaderError, TokenFault, Tokens, attachments_at, done,
     expect, operand_means, reg_at, reg_of, result_at, type_refusal,
 };
 use ir_tree::{Reg, Rows};
@@ -29,11 +29,11 @@ use std::alloc::{AllocError, Global};
 
 /// Reads a calling convention, or an attribute of the result.
 #[tactic(auto, unfolding(crate::specs::CallsAt::convention_at))]
-fn convention_at(alloc: Global, tokens: &mut Tokens) -> Result<(), ReadError>
-    ensures { Gives (λ x. (tt, tokens.new)) result (convention_at tokens.old) }
+fn convention_at(alloc: Global, tokens: &mut Tokens) -> Result<(), ReaderError>
+    ensures { Returns (λ x. (tt, tokens.new)) result (convention_at tokens.old) }
 {
-    if tokens.comes(Head::CallingConvention) {
-        expect(Head::CallingConvention, tokens)
+    if tokens.comes(TokenKind::CallingConvention) {
+        expect(TokenKind::CallingConvention, tokens)
     } else {
         parameter_attribute_at(alloc, tokens)
     }
@@ -43,10 +43,13 @@ fn convention_at(alloc: Global, tokens: &mut Tokens) -> Result<(), ReadError>
 fn comes_convention(rest: &Tokens) -> bool
     ensures { result ≡ next_is (among tokens CONVENTIONS) rest.now }
 {
-    match rest.head() {
+    match rest.kind() {
         Some(head) => matches!(
             head,
-            Head::CallingConvention | Head::ParameterWord | Head::ParameterGroup | Head::Align
+            TokenKind::CallingConvention
+                | TokenKind::ParameterWord
+                | TokenKind::ParameterGroup
+                | TokenKind::Align
         ),
         None => false,
     }
@@ -54,8 +57,8 @@ fn comes_convention(rest: &Tokens) -> bool
 
 /// Reads what stands before the result of a call: `fastcc noundef`.
 #[tactic(auto, unfolding(crate::specs::CallsAt::conventions_at))]
-fn conventions_at(alloc: Global, tokens: &mut Tokens) -> Result<(), ReadError>
-    ensures { Gives (λ x. (tt, tokens.new)) result (conventions_at tokens.old) }
+fn conventions_at(alloc: Global, tokens: &mut Tokens) -> Result<(), ReaderError>
+    ensures { Returns (λ x. (tt, tokens.new)) result (conventions_at tokens.old) }
 {
     'each: while comes_convention(tokens) {
         convention_at(alloc, tokens)?;
@@ -65,21 +68,21 @@ fn conventions_at(alloc: Global, tokens: &mut Tokens) -> Result<(), ReadError>
 
 /// Takes the type of a parameter of a callee.
 #[tactic(auto, unfolding(ir_read::specs::Rules::is_among))]
-fn written_type_at(alloc: Global, tokens: &mut Tokens) -> Result<Name, ReadError>
-    ensures { Gives (λ x. (x, tokens.new)) result (written_type_at tokens.old) }
+fn written_type_at(alloc: Global, tokens: &mut Tokens) -> Result<Name, ReaderError>
+    ensures { Returns (λ x. (x, tokens.new)) result (written_type_at tokens.old) }
 {
     let left = tokens.left();
     match tokens.take() {
-        None => Err(ReadError::Fault(Fault {
+        None => Err(ReaderError::Fault(Fault {
             left,
             kind: TokenFault::Syntax,
         })),
-        Some(t) => match t.head {
-            Head::MemoryInteger | Head::RegisterInteger | Head::Ptr => {
+        Some(t) => match t.kind {
+            TokenKind::MemoryInteger | TokenKind::RegisterInteger | TokenKind::Ptr => {
                 let name = Name::of(alloc, &t)?;
                 done(name)
             }
-            head => Err(ReadError::Fault(Fault {
+            head => Err(ReaderError::Fault(Fault {
                 left,
                 kind: type_refusal(head),
             })),
@@ -88,21 +91,25 @@ fn written_type_at(alloc: Global, tokens: &mut Tokens) -> Result<Name, ReadError
 }
 
 #[tactic(auto, unfolding(crate::specs::CallsAt::further_type_at))]
-fn further_type_at(alloc: Global, tokens: &mut Tokens) -> Result<Name, ReadError>
-    ensures { Gives (λ x. (x, tokens.new)) result (further_type_at tokens.old) }
+fn further_type_at(alloc: Global, tokens: &mut Tokens) -> Result<Name, ReaderError>
+    ensures { Returns (λ x. (x, tokens.new)) result (further_type_at tokens.old) }
 {
-    expect(Head::Comma, tokens)?;
+    expect(TokenKind::Comma, tokens)?;
     written_type_at(alloc, tokens)
 }
 
 /// Reads the types behind a first one, and adds that in front.
 #[tactic(auto, unfolding(crate::specs::CallsAt::types_behind_at))]
-fn types_behind_at(alloc: Global, first: Name, tokens: &mut Tokens) -> Result<Vec<Name>, ReadError>
-    ensures { Gives (λ x. (x.items, tokens.new)) result (types_behind_at first tokens.old) }
+fn types_behind_at(
+    alloc: Global,
+    first: Name,
+    tokens: &mut Tokens,
+) -> Result<Vec<Name>, ReaderError>
+    ensures { Returns (λ x. (x.items, tokens.new)) result (types_behind_at first tokens.old) }
 {
     let mut types = Vec::new(alloc);
     types.push(first)?;
-    'each: while tokens.comes(Head::Comma) {
+    'each: while tokens.comes(TokenKind::Comma) {
         let further = further_type_at(alloc, tokens)?;
         types.push(further)?;
     }
@@ -110,20 +117,20 @@ fn types_behind_at(alloc: Global, first: Name, tokens: &mut Tokens) -> Result<Ve
 }
 
 #[tactic(auto, unfolding(crate::specs::CallsAt::some_types_at))]
-fn some_types_at(alloc: Global, tokens: &mut Tokens) -> Result<Vec<Name>, ReadError>
-    ensures { Gives (λ x. (x.items, tokens.new)) result (some_types_at tokens.old) }
+fn some_types_at(alloc: Global, tokens: &mut Tokens) -> Result<Vec<Name>, ReaderError>
+    ensures { Returns (λ x. (x.items, tokens.new)) result (some_types_at tokens.old) }
 {
     let first = written_type_at(alloc, tokens)?;
     types_behind_at(alloc, first, tokens)
 }
 
 #[tactic(auto, unfolding(crate::specs::CallsAt::listed_types_at))]
-fn listed_types_at(alloc: Global, tokens: &mut Tokens) -> Result<Vec<Name>, ReadError>
-    ensures { Gives (λ x. (x.items, tokens.new)) result (listed_types_at tokens.old) }
+fn listed_types_at(alloc: Global, tokens: &mut Tokens) -> Result<Vec<Name>, ReaderError>
+    ensures { Returns (λ x. (x.items, tokens.new)) result (listed_types_at tokens.old) }
 {
     if tokens.comes_reg() {
         let types = some_types_at(alloc, tokens)?;
-        expect(Head::CloseParen, tokens)?;
+        expect(TokenKind::CloseParen, tokens)?;
         Ok(types)
     } else {
         end_of_none_at(tokens)?;
@@ -133,10 +140,10 @@ fn listed_types_at(alloc: Global, tokens: &mut Tokens) -> Result<Vec<Name>, Read
 
 /// Reads the types of a callee's parameters: `(i32, ptr)`.
 #[tactic(auto, unfolding(crate::specs::CallsAt::types_at))]
-fn types_at(alloc: Global, tokens: &mut Tokens) -> Result<Vec<Name>, ReadError>
-    ensures { Gives (λ x. (x.items, tokens.new)) result (types_at tokens.old) }
+fn types_at(alloc: Global, tokens: &mut Tokens) -> Result<Vec<Name>, ReaderError>
+    ensures { Returns (λ x. (x.items, tokens.new)) result (types_at tokens.old) }
 {
-    expect(Head::OpenParen, tokens)?;
+    expect(TokenKind::OpenParen, tokens)?;
     listed_types_at(alloc, tokens)
 }
 
@@ -147,9 +154,9 @@ fn argument_behind_into(
     reg: Reg,
     arguments: &mut Vec<Argument>,
     tokens: &mut Tokens,
-) -> Result<(), ReadError>
+) -> Result<(), ReaderError>
     requires { IsReg reg }
-    ensures { Gives (λ _. (arguments.new.items, tokens.new)) result (pushed_at arguments.old.items (argument_behind_at reg) tokens.old) }
+    ensures { Returns (λ _. (arguments.new.items, tokens.new)) result (pushed_at arguments.old.items (argument_behind_at reg) tokens.old) }
 {
     parameter_attributes_at(alloc, tokens)?;
     let operand = operand_at(alloc, reg, tokens)?;
@@ -162,8 +169,8 @@ fn argument_into(
     alloc: Global,
     arguments: &mut Vec<Argument>,
     tokens: &mut Tokens,
-) -> Result<(), ReadError>
-    ensures { Gives (λ _. (arguments.new.items, tokens.new)) result (pushed_at arguments.old.items argument_at tokens.old) }
+) -> Result<(), ReaderError>
+    ensures { Returns (λ _. (arguments.new.items, tokens.new)) result (pushed_at arguments.old.items argument_at tokens.old) }
 {
     let reg = reg_at(tokens)?;
     argument_behind_into(alloc, reg, arguments, tokens)
@@ -174,10 +181,10 @@ fn further_argument_into(
     alloc: Global,
     arguments: &mut Vec<Argument>,
     tokens: &mut Tokens,
-) -> Result<(), ReadError>
-    ensures { Gives (λ _. (arguments.new.items, tokens.new)) result (pushed_at arguments.old.items further_argument_at tokens.old) }
+) -> Result<(), ReaderError>
+    ensures { Returns (λ _. (arguments.new.items, tokens.new)) result (pushed_at arguments.old.items further_argument_at tokens.old) }
 {
-    expect(Head::Comma, tokens)?;
+    expect(TokenKind::Comma, tokens)?;
     argument_into(alloc, arguments, tokens)
 }
 
@@ -186,11 +193,11 @@ fn some_arguments_into(
     alloc: Global,
     arguments: &mut Vec<Argument>,
     tokens: &mut Tokens,
-) -> Result<(), ReadError>
-    ensures { Gives (λ _. (arguments.new.items, tokens.new)) result (joined_at arguments.old.items some_arguments_at tokens.old) }
+) -> Result<(), ReaderError>
+    ensures { Returns (λ _. (arguments.new.items, tokens.new)) result (joined_at arguments.old.items some_arguments_at tokens.old) }
 {
     argument_into(alloc, arguments, tokens)?;
-    'each: while tokens.comes(Head::Comma) {
+    'each: while tokens.comes(TokenKind::Comma) {
         further_argument_into(alloc, arguments, tokens)?;
     }
     Ok(())
@@ -202,12 +209,12 @@ fn any_arguments_into(
     alloc: Global,
     arguments: &mut Vec<Argument>,
     tokens: &mut Tokens,
-) -> Result<(), ReadError>
-    ensures { Gives (λ _. (arguments.new.items, tokens.new)) result (joined_at arguments.old.items any_arguments_at tokens.old) }
+) -> Result<(), ReaderError>
+    ensures { Returns (λ _. (arguments.new.items, tokens.new)) result (joined_at arguments.old.items any_arguments_at tokens.old) }
 {
     if tokens.comes_reg() {
         some_arguments_into(alloc, arguments, tokens)?;
-        expect(Head::CloseParen, tokens)
+        expect(TokenKind::CloseParen, tokens)
     } else {
         end_of_none_at(tokens)
     }
@@ -229,13 +236,13 @@ fn type_again(written: &Token, t: &Token) -> Result<Reg, TokenFault>
     ensures exact { result ≡ is_exact tokens type_refusal REG (is_type (tok written.now)) reg_of (tok t.now) }
     ensures ranged { IfOk result IsReg }
 {
-    match t.head {
-        Head::MemoryInteger | Head::RegisterInteger | Head::Ptr => {
+    match t.kind {
+        TokenKind::MemoryInteger | TokenKind::RegisterInteger | TokenKind::Ptr => {
             let reg = reg_of(t);
             if is_same_reg(reg_of(written), reg) {
                 Ok(reg)
             } else {
-                Err(type_refusal(t.head))
+                Err(type_refusal(t.kind))
             }
         }
         head => Err(type_refusal(head)),
@@ -243,20 +250,20 @@ fn type_again(written: &Token, t: &Token) -> Result<Reg, TokenFault>
 }
 
 /// Takes the type that stands in a list of types.
-fn type_again_at(written: &Name, tokens: &mut Tokens) -> Result<Reg, ReadError>
-    ensures exact { Gives (λ x. (x, tokens.new)) result (type_again_at written.now tokens.old) }
+fn type_again_at(written: &Name, tokens: &mut Tokens) -> Result<Reg, ReaderError>
+    ensures exact { Returns (λ x. (x, tokens.new)) result (type_again_at written.now tokens.old) }
     ensures ranged { IfOk result IsReg }
 {
     let token = written.token();
     let left = tokens.left();
     match tokens.take() {
-        None => Err(ReadError::Fault(Fault {
+        None => Err(ReaderError::Fault(Fault {
             left,
             kind: TokenFault::Syntax,
         })),
         Some(t) => match type_again(&token, &t) {
             Ok(x) => Ok(x),
-            Err(kind) => Err(ReadError::Fault(Fault { left, kind })),
+            Err(kind) => Err(ReaderError::Fault(Fault { left, kind })),
         },
     }
 }
@@ -268,8 +275,8 @@ fn argument_of_into(
     written: &Name,
     arguments: &mut Vec<Argument>,
     tokens: &mut Tokens,
-) -> Result<(), ReadError>
-    ensures { Gives (λ _. (arguments.new.items, tokens.new)) result (pushed_at arguments.old.items (argument_of_at written.now) tokens.old) }
+) -> Result<(), ReaderError>
+    ensures { Returns (λ _. (arguments.new.items, tokens.new)) result (pushed_at arguments.old.items (argument_of_at written.now) tokens.old) }
 {
     let reg = type_again_at(written, tokens)?;
     argument_behind_into(alloc, reg, arguments, tokens)
@@ -281,10 +288,10 @@ fn further_of_into(
     written: &Name,
     arguments: &mut Vec<Argument>,
     tokens: &mut Tokens,
-) -> Result<(), ReadError>
-    ensures { Gives (λ _. (arguments.new.items, tokens.new)) result (pushed_at arguments.old.items (further_of_at written.now) tokens.old) }
+) -> Result<(), ReaderError>
+    ensures { Returns (λ _. (arguments.new.items, tokens.new)) result (pushed_at arguments.old.items (further_of_at written.now) tokens.old) }
 {
-    expect(Head::Comma, tokens)?;
+    expect(TokenKind::Comma, tokens)?;
     argument_of_into(alloc, written, arguments, tokens)
 }
 
@@ -295,8 +302,8 @@ fn some_of_into(
     further: &[Name],
     arguments: &mut Vec<Argument>,
     tokens: &mut Tokens,
-) -> Result<(), ReadError>
-    ensures { Gives (λ _. (arguments.new.items, tokens.new)) result (joined_at arguments.old.items (some_of_at first.now further.now) tokens.old) }
+) -> Result<(), ReaderError>
+    ensures { Returns (λ _. (arguments.new.items, tokens.new)) result (joined_at arguments.old.items (some_of_at first.now further.now) tokens.old) }
 {
     argument_of_into(alloc, first, arguments, tokens)?;
     'each: for written in further {
@@ -312,14 +319,14 @@ fn arguments_of_into(
     types: &[Name],
     arguments: &mut Vec<Argument>,
     tokens: &mut Tokens,
-) -> Result<(), ReadError>
-    ensures { Gives (λ _. (arguments.new.items, tokens.new)) result (joined_at arguments.old.items (arguments_of_at types.now) tokens.old) }
+) -> Result<(), ReaderError>
+    ensures { Returns (λ _. (arguments.new.items, tokens.new)) result (joined_at arguments.old.items (arguments_of_at types.now) tokens.old) }
 {
     match types {
-        [] => expect(Head::CloseParen, tokens),
+        [] => expect(TokenKind::CloseParen, tokens),
         [first, further @ ..] => {
             some_of_into(alloc, first, further, arguments, tokens)?;
-            expect(Head::CloseParen, tokens)
+            expect(TokenKind::CloseParen, tokens)
         }
     }
 }
@@ -330,8 +337,8 @@ fn arguments_into(
     types: &Option<Rows<Name>>,
     arguments: &mut Vec<Argument>,
     tokens: &mut Tokens,
-) -> Result<(), ReadError>
-    ensures { Gives (λ _. (arguments.new.items, tokens.new)) result (joined_at arguments.old.items (arguments_at types.now) tokens.old) }
+) -> Result<(), ReaderError>
+    ensures { Returns (λ _. (arguments.new.items, tokens.new)) result (joined_at arguments.old.items (arguments_at types.now) tokens.old) }
 {
     match types {
         None => any_arguments_into(alloc, arguments, tokens),
@@ -340,8 +347,8 @@ fn arguments_into(
 }
 
 #[tactic(auto, unfolding(crate::specs::CallsAt::called_value_at))]
-fn called_value_at(alloc: Global, tokens: &mut Tokens) -> Result<Option<Operand>, ReadError>
-    ensures { Gives (λ x. (x, tokens.new)) result (called_value_at tokens.old) }
+fn called_value_at(alloc: Global, tokens: &mut Tokens) -> Result<Option<Operand>, ReaderError>
+    ensures { Returns (λ x. (x, tokens.new)) result (called_value_at tokens.old) }
 {
     let value = operand_at(alloc, Reg::Ptr, tokens)?;
     done(Some(value))
@@ -352,34 +359,34 @@ fn called_value_at(alloc: Global, tokens: &mut Tokens) -> Result<Option<Operand>
 fn unmarked_means(alloc: Global, t: &Token) -> Result<Result<Operand, TokenFault>, AllocError>
     ensures { IfOk result (λ x. x ≡ is_valued tokens marker_refusal (classes_of Ptr) (operand_of Ptr) (tok t.now)) }
 {
-    if t.head.is(Head::LifetimeMarker) {
+    if t.kind.is(TokenKind::LifetimeMarker) {
         Ok(Err(TokenFault::Syntax))
     } else {
         operand_means(alloc, Reg::Ptr, t)
     }
 }
 
-fn unmarked_at(alloc: Global, tokens: &mut Tokens) -> Result<Operand, ReadError>
-    ensures { Gives (λ x. (x, tokens.new)) result (unmarked_at tokens.old) }
+fn unmarked_at(alloc: Global, tokens: &mut Tokens) -> Result<Operand, ReaderError>
+    ensures { Returns (λ x. (x, tokens.new)) result (unmarked_at tokens.old) }
 {
     let left = tokens.left();
     match tokens.take() {
-        None => Err(ReadError::Fault(Fault {
+        None => Err(ReaderError::Fault(Fault {
             left,
             kind: TokenFault::Syntax,
         })),
         Some(t) => match unmarked_means(alloc, &t)? {
             Ok(x) => Ok(x),
-            Err(kind) => Err(ReadError::Fault(Fault { left, kind })),
+            Err(kind) => Err(ReaderError::Fault(Fault { left, kind })),
         },
     }
 }
 
 #[tactic(auto, unfolding(crate::specs::CallsAt::unmarked_value_at))]
-fn unmarked_value_at(alloc: Global, tokens: &mut Tokens) -> Result<Option<Operand>, ReadError>
-    ensures { Gives (λ x. (x, tokens.new)) result (unmarked_value_at tokens.old) }
+fn unmarked_value_at(alloc: Global, tokens: &mut Tokens) -> Result<Option<Operand>, ReaderError>
+    ensures { Returns (λ x. (x, tokens.new)) result (unmarked_value_at tokens.old) }
 {
-    if tokens.comes(Head::GetElementPtr) {
+    if tokens.comes(TokenKind::GetElementPtr) {
         let value = address_at(alloc, tokens)?;
         done(Some(value))
     } else {
@@ -395,15 +402,15 @@ fn callee_at(
     named: bool,
     reg: Option<Reg>,
     tokens: &mut Tokens,
-) -> Result<Option<Operand>, ReadError>
-    ensures { Gives (λ x. (x, tokens.new)) result (callee_at named reg tokens.old) }
+) -> Result<Option<Operand>, ReaderError>
+    ensures { Returns (λ x. (x, tokens.new)) result (callee_at named reg tokens.old) }
 {
     if reg.is_some() {
         called_value_at(alloc, tokens)
     } else if named {
         unmarked_value_at(alloc, tokens)
-    } else if tokens.comes(Head::LifetimeMarker) {
-        expect(Head::LifetimeMarker, tokens)?;
+    } else if tokens.comes(TokenKind::LifetimeMarker) {
+        expect(TokenKind::LifetimeMarker, tokens)?;
         Ok(None)
     } else {
         called_value_at(alloc, tokens)
@@ -411,10 +418,10 @@ fn callee_at(
 }
 
 /// Reads the types of the callee's parameters, where they are written.
-fn maybe_types_at(alloc: Global, tokens: &mut Tokens) -> Result<Option<Rows<Name>>, ReadError>
-    ensures { Gives (λ x. (x, tokens.new)) result (maybe_types_at tokens.old) }
+fn maybe_types_at(alloc: Global, tokens: &mut Tokens) -> Result<Option<Rows<Name>>, ReaderError>
+    ensures { Returns (λ x. (x, tokens.new)) result (maybe_types_at tokens.old) }
 {
-    if tokens.comes(Head::OpenParen) {
+    if tokens.comes(TokenKind::OpenParen) {
         let types = types_at(alloc, tokens)?;
         Ok(Some(Rows::of(types)))
     } else {
@@ -428,8 +435,8 @@ fn arguments_at(
     alloc: Global,
     types: &Option<Rows<Name>>,
     tokens: &mut Tokens,
-) -> Result<Vec<Argument>, ReadError>
-    ensures { Gives (λ x. (x.items, tokens.new)) result (arguments_at types.now tokens.old) }
+) -> Result<Vec<Argument>, ReaderError>
+    ensures { Returns (λ x. (x.items, tokens.new)) result (arguments_at types.now tokens.old) }
 {
     let mut arguments = Vec::new(alloc);
     arguments_into(alloc, types, &mut arguments, tokens)?;
@@ -442,7 +449,7 @@ fn put_call(
     callee: Option<Operand>,
     arguments: Vec<Argument>,
     list: &mut Listing,
-) -> Result<(), ReadError>
+) -> Result<(), ReaderError>
     ensures put { OnOk result (list.new.lines.items ≡ kept_in list.old (called reg callee arguments.items)) }
     ensures memory { IfErr result (λ e. e ≡ NoMemory) }
 {
@@ -464,8 +471,8 @@ fn called_into(
     arguments: Vec<Argument>,
     list: &mut Listing,
     tokens: &mut Tokens,
-) -> Result<(), ReadError>
-    ensures { Gives (λ _. (list.new.lines.items, tokens.new)) result (listed_at list.old (called_at reg callee arguments.items) tokens.old) }
+) -> Result<(), ReaderError>
+    ensures { Returns (λ _. (list.new.lines.items, tokens.new)) result (listed_at list.old (called_at reg callee arguments.items) tokens.old) }
 {
     put_call(reg, callee, arguments, list)?;
     call_attributes_at(alloc, tokens)?;
@@ -479,12 +486,12 @@ fn calling_of_into(
     reg: Option<Reg>,
     list: &mut Listing,
     tokens: &mut Tokens,
-) -> Result<(), ReadError>
-    ensures { Gives (λ _. (list.new.lines.items, tokens.new)) result (listed_at list.old (calling_of_at named reg) tokens.old) }
+) -> Result<(), ReaderError>
+    ensures { Returns (λ _. (list.new.lines.items, tokens.new)) result (listed_at list.old (calling_of_at named reg) tokens.old) }
 {
     let types = maybe_types_at(alloc, tokens)?;
     let callee = callee_at(alloc, named, reg, tokens)?;
-    expect(Head::OpenParen, tokens)?;
+    expect(TokenKind::OpenParen, tokens)?;
     let arguments = arguments_at(alloc, &types, tokens)?;
     called_into(alloc, reg, callee, arguments, list, tokens)
 }
@@ -497,8 +504,8 @@ pub fn calling_into(
     named: bool,
     list: &mut Listing,
     tokens: &mut Tokens,
-) -> Result<(), ReadError>
-    ensures { Gives (λ _. (list.new.lines.items, tokens.new)) result (listed_at list.old (calling_at named) tokens.old) }
+) -> Result<(), ReaderError>
+    ensures { Returns (λ _. (list.new.lines.items, tokens.new)) result (listed_at list.old (calling_at named) tokens.old) }
 {
     conventions_at(alloc, tokens)?;
     let result = result_at(tokens)?;
@@ -512,9 +519,9 @@ pub fn tail_calling_into(
     named: bool,
     list: &mut Listing,
     tokens: &mut Tokens,
-) -> Result<(), ReadError>
-    ensures { Gives (λ _. (list.new.lines.items, tokens.new)) result (listed_at list.old (tail_calling_at named) tokens.old) }
+) -> Result<(), ReaderError>
+    ensures { Returns (λ _. (list.new.lines.items, tokens.new)) result (listed_at list.old (tail_calling_at named) tokens.old) }
 {
-    expect(Head::Call, tokens)?;
+    expect(TokenKind::Call, tokens)?;
     calling_into(alloc, named, list, tokens)
 }

@@ -1,7 +1,7 @@
 //! Reads definitions of functions (LangRef, "Functions").
 
 ghost use Rattle.std.specs.Prelude.{◌≡◌, []};
-ghost use Rattle.ir_read.specs.Readers.{Gives};
+ghost use Rattle.ir_read.specs.Readers.{Returns};
 ghost use Rattle.ir_operands.specs.Adding.{pushed_at};
 ghost use Rattle.ir_bodies.specs.Adding.{joined_at};
 ghost use Rattle.ir_bodies.specs.Blocks.{FURTHER_BLOCKS, INSTRUCTIONS, with_kept};
@@ -9,9 +9,9 @@ ghost use Rattle.ir_bodies.specs.BlocksAt.{heading_at, braced_at, defined_at, de
 
 use crate::blocks::{Blocks, blocks_into};
 use ir_heads::{Kept, Role, definition_attributes_at, head_at};
-use ir_lex::Head;
+use ir_lex::TokenKind;
 use ir_operands::push_item;
-use ir_read::{Block, Item, ReadError, Tokens, done, expect};
+use ir_read::{Block, Item, ReaderError, Tokens, done, expect};
 use ir_tree::Rows;
 use std::alloc::Global;
 
@@ -32,10 +32,10 @@ fn instructions() -> usize
 }
 
 /// A head with what is kept of the attributes behind it.
-fn with_kept(head: ir_read::Head, kept: Kept) -> ir_read::Head
+fn with_kept(head: ir_read::FunctionHeader, kept: Kept) -> ir_read::FunctionHeader
     ensures { result ≡ with_kept head kept }
 {
-    ir_read::Head {
+    ir_read::FunctionHeader {
         linkage: head.linkage,
         result: head.result,
         name: head.name,
@@ -47,10 +47,14 @@ fn with_kept(head: ir_read::Head, kept: Kept) -> ir_read::Head
 }
 
 /// Reads what stands before the braces of a definition.
-fn heading_at(alloc: Global, room: usize, tokens: &mut Tokens) -> Result<ir_read::Head, ReadError>
-    ensures { Gives (λ x. (x, tokens.new)) result (heading_at room tokens.old) }
+fn heading_at(
+    alloc: Global,
+    room: usize,
+    tokens: &mut Tokens,
+) -> Result<ir_read::FunctionHeader, ReaderError>
+    ensures { Returns (λ x. (x, tokens.new)) result (heading_at room tokens.old) }
 {
-    expect(Head::Define, tokens)?;
+    expect(TokenKind::Define, tokens)?;
     let head = head_at(alloc, Role::Definition, room, tokens)?;
     let kept = definition_attributes_at(alloc, tokens)?;
     done(with_kept(head, kept))
@@ -58,17 +62,17 @@ fn heading_at(alloc: Global, room: usize, tokens: &mut Tokens) -> Result<ir_read
 
 /// Reads the blocks of a function, in their braces, and adds them.
 #[tactic(auto, using(crate::proofs::Grouping::braced_is))]
-fn braced_into(alloc: Global, blocks: &mut Blocks, tokens: &mut Tokens) -> Result<(), ReadError>
-    ensures { Gives (λ _. (blocks.new.list.items, tokens.new)) result (joined_at blocks.old.list.items braced_at tokens.old) }
+fn braced_into(alloc: Global, blocks: &mut Blocks, tokens: &mut Tokens) -> Result<(), ReaderError>
+    ensures { Returns (λ _. (blocks.new.list.items, tokens.new)) result (joined_at blocks.old.list.items braced_at tokens.old) }
 {
-    expect(Head::OpenBrace, tokens)?;
+    expect(TokenKind::OpenBrace, tokens)?;
     blocks_into(alloc, further_blocks(), instructions(), blocks, tokens)?;
-    expect(Head::CloseBrace, tokens)
+    expect(TokenKind::CloseBrace, tokens)
 }
 
 /// Reads the blocks of a function, in their braces.
-fn rows_at(alloc: Global, tokens: &mut Tokens) -> Result<Rows<Block>, ReadError>
-    ensures { Gives (λ x. (x, tokens.new)) result (joined_at [] braced_at tokens.old) }
+fn rows_at(alloc: Global, tokens: &mut Tokens) -> Result<Rows<Block>, ReaderError>
+    ensures { Returns (λ x. (x, tokens.new)) result (joined_at [] braced_at tokens.old) }
 {
     let mut blocks = Blocks::new(alloc);
     braced_into(alloc, &mut blocks, tokens)?;
@@ -79,11 +83,11 @@ fn rows_at(alloc: Global, tokens: &mut Tokens) -> Result<Rows<Block>, ReadError>
 #[tactic(auto, using(crate::proofs::Grouping::pushed_defined))]
 fn defined_into(
     alloc: Global,
-    head: ir_read::Head,
+    head: ir_read::FunctionHeader,
     items: &mut Vec<Item>,
     tokens: &mut Tokens,
-) -> Result<(), ReadError>
-    ensures { Gives (λ _. (items.new.items, tokens.new)) result (pushed_at items.old.items (defined_at head) tokens.old) }
+) -> Result<(), ReaderError>
+    ensures { Returns (λ _. (items.new.items, tokens.new)) result (pushed_at items.old.items (defined_at head) tokens.old) }
 {
     let blocks = rows_at(alloc, tokens)?;
     push_item(items, Item::Definition(head, blocks))
@@ -98,8 +102,8 @@ pub fn definition_into(
     room: usize,
     items: &mut Vec<Item>,
     tokens: &mut Tokens,
-) -> Result<(), ReadError>
-    ensures { Gives (λ _. (items.new.items, tokens.new)) result (pushed_at items.old.items (definition_at room) tokens.old) }
+) -> Result<(), ReaderError>
+    ensures { Returns (λ _. (items.new.items, tokens.new)) result (pushed_at items.old.items (definition_at room) tokens.old) }
 {
     let head = heading_at(alloc, room, tokens)?;
     defined_into(alloc, head, items, tokens)

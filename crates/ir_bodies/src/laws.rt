@@ -8,7 +8,7 @@ ghost use Rattle.ir_bodies.specs.BlocksAt.{DEFINE, definition_at};
 
 /// The reader of definitions, which `definition_into` follows, reads exactly their form, and stops at the
 /// first token at which no reading goes on: there a number is out of range only where another number of
-/// its class goes on, and where one does the fault is that or a limit; a limit is passed only where a
+/// its kind goes on, and where one does the fault is that or a limit; a limit is passed only where a
 /// reading without limits goes on.
 pub fn definition_rule()
     ensures rule { (room : ℕ) → Rule tokens (definition room) any_definition (definition_at room) DEFINE [] false }

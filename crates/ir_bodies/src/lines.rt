@@ -1,7 +1,7 @@
 //! Reads instructions with the names of their results (LangRef, "Instruction Reference").
 
 ghost use Rattle.std.specs.Prelude.{◌≡◌};
-ghost use Rattle.ir_read.specs.Readers.{Gives};
+ghost use Rattle.ir_read.specs.Readers.{Returns};
 ghost use Rattle.ir_operands.specs.Listing.{put_at};
 ghost use Rattle.ir_bodies.specs.Adding.{kept_at};
 ghost use Rattle.ir_bodies.specs.LinesAt.{operation_at, attended_at, behind_at, line_behind_at, named_line_at, plain_line_at, line_at};
@@ -14,9 +14,9 @@ use ir_instructions::{
     joining_into, loading_into, narrowing_into, on_two_into, phi_into, reserving_into,
     selecting_into, storing_into, wrapping_into,
 };
-use ir_lex::Head;
+use ir_lex::TokenKind;
 use ir_operands::Listing;
-use ir_read::{Name, ReadError, Tokens, attachments_at, expect, local_at};
+use ir_read::{Name, ReaderError, Tokens, attachments_at, expect, local_at};
 use ir_tree::{CastOp, Flags};
 use std::alloc::Global;
 
@@ -26,8 +26,8 @@ fn operation_into(
     operation: Operation,
     list: &mut Listing,
     tokens: &mut Tokens,
-) -> Result<(), ReadError>
-    ensures { Gives (λ _. (list.new.lines.items, tokens.new)) result (put_at list.old (operation_at operation) tokens.old) }
+) -> Result<(), ReaderError>
+    ensures { Returns (λ _. (list.new.lines.items, tokens.new)) result (put_at list.old (operation_at operation) tokens.old) }
 {
     match operation {
         Operation::Wrapping(op) => wrapping_into(alloc, op, list, tokens),
@@ -57,8 +57,8 @@ fn attended_into(
     operation: Operation,
     list: &mut Listing,
     tokens: &mut Tokens,
-) -> Result<(), ReadError>
-    ensures { Gives (λ _. (list.new.lines.items, tokens.new)) result (listed_at list.old (attended_at (operation_at operation)) tokens.old) }
+) -> Result<(), ReaderError>
+    ensures { Returns (λ _. (list.new.lines.items, tokens.new)) result (listed_at list.old (attended_at (operation_at operation)) tokens.old) }
 {
     operation_into(alloc, operation, list, tokens)?;
     attachments_at(alloc, tokens)
@@ -73,8 +73,8 @@ fn behind_into(
     opcode: Opcode,
     list: &mut Listing,
     tokens: &mut Tokens,
-) -> Result<(), ReadError>
-    ensures { Gives (λ _. (list.new.lines.items, tokens.new)) result (listed_at list.old (behind_at named opcode) tokens.old) }
+) -> Result<(), ReaderError>
+    ensures { Returns (λ _. (list.new.lines.items, tokens.new)) result (listed_at list.old (behind_at named opcode) tokens.old) }
 {
     match opcode {
         Opcode::Value(operation) => attended_into(alloc, operation, list, tokens),
@@ -95,27 +95,35 @@ fn line_behind_into(
     name: Name,
     list: &mut Listing,
     tokens: &mut Tokens,
-) -> Result<(), ReadError>
-    ensures { Gives (λ _. (list.new.lines.items, tokens.new)) result (kept_at list.old.lines.items (line_behind_at name) tokens.old) }
+) -> Result<(), ReaderError>
+    ensures { Returns (λ _. (list.new.lines.items, tokens.new)) result (kept_at list.old.lines.items (line_behind_at name) tokens.old) }
 {
     list.line = name.line();
     list.name = Some(name);
-    expect(Head::Equals, tokens)?;
+    expect(TokenKind::Equals, tokens)?;
     let opcode = giving_at(tokens)?;
     behind_into(alloc, true, opcode, list, tokens)
 }
 
 #[tactic(auto, unfolding(crate::specs::LinesAt::named_line_at))]
-fn named_line_into(alloc: Global, list: &mut Listing, tokens: &mut Tokens) -> Result<(), ReadError>
-    ensures { Gives (λ _. (list.new.lines.items, tokens.new)) result (kept_at list.old.lines.items named_line_at tokens.old) }
+fn named_line_into(
+    alloc: Global,
+    list: &mut Listing,
+    tokens: &mut Tokens,
+) -> Result<(), ReaderError>
+    ensures { Returns (λ _. (list.new.lines.items, tokens.new)) result (kept_at list.old.lines.items named_line_at tokens.old) }
 {
     let name = local_at(alloc, tokens)?;
     line_behind_into(alloc, name, list, tokens)
 }
 
 #[tactic(auto, unfolding(crate::specs::LinesAt::plain_line_at))]
-fn plain_line_into(alloc: Global, list: &mut Listing, tokens: &mut Tokens) -> Result<(), ReadError>
-    ensures { Gives (λ _. (list.new.lines.items, tokens.new)) result (kept_at list.old.lines.items plain_line_at tokens.old) }
+fn plain_line_into(
+    alloc: Global,
+    list: &mut Listing,
+    tokens: &mut Tokens,
+) -> Result<(), ReaderError>
+    ensures { Returns (λ _. (list.new.lines.items, tokens.new)) result (kept_at list.old.lines.items plain_line_at tokens.old) }
 {
     let begun = begun_at(tokens)?;
     list.line = begun.line;
@@ -126,10 +134,10 @@ fn plain_line_into(alloc: Global, list: &mut Listing, tokens: &mut Tokens) -> Re
 /// Reads an instruction with the name of its result, where it has one, and its attachments, and adds
 /// the line, unless its call is dropped.
 #[tactic(auto, unfolding(crate::specs::LinesAt::line_at))]
-pub fn line_into(alloc: Global, list: &mut Listing, tokens: &mut Tokens) -> Result<(), ReadError>
-    ensures { Gives (λ _. (list.new.lines.items, tokens.new)) result (kept_at list.old.lines.items line_at tokens.old) }
+pub fn line_into(alloc: Global, list: &mut Listing, tokens: &mut Tokens) -> Result<(), ReaderError>
+    ensures { Returns (λ _. (list.new.lines.items, tokens.new)) result (kept_at list.old.lines.items line_at tokens.old) }
 {
-    if tokens.comes(Head::Local) {
+    if tokens.comes(TokenKind::Local) {
         named_line_into(alloc, list, tokens)
     } else {
         plain_line_into(alloc, list, tokens)

@@ -4,7 +4,7 @@ use Rattle.std.specs.Prelude.{slice_get, flat_map, filter_map}
 use Rattle.std.proofs.lemmas.Bool.Decides.{nat_tests}
 use Rattle.std.proofs.lemmas.List.{map-append}
 use Rattle.std.proofs.lemmas.Option.{slice_get-map}
-use Rattle.ir_tree.specs.Flow.{definitions, edges, holds, leading, leading_to, locals, parameters, phi_locals, repeated, results, targets}
+use Rattle.ir_tree.specs.Flow.{definitions, edges, holds, leading, leading_to, locals, parameters, phi_locals, repeated, results, successors}
 use Rattle.ir_tree.specs.Formed.{numbers}
 use Rattle.ir_tree.specs.Items.{Item, phi_item, line_item, end_item, block_items, end_reads, entries, items, items_from, lines_from, operands, phi_reads, reads, taken, taken_as, typed}
 use Rattle.ir_tree.specs.Rules.{Typing, block_typings, line_typing, place, result_type, type_of, typing, typings}
@@ -137,7 +137,7 @@ module _ (new : ℕ → ℕ) where
   entries_under (line_item b k l) = taken_from_under l.instr
   entries_under (end_item b t) = refl
 
-  pub targets_under : (t : Terminator) → targets (end_under new t) ≡ map new (targets t)
+  pub targets_under : (t : Terminator) → successors (end_under new t) ≡ map new (successors t)
   targets_under (Return argument) = refl
   targets_under (Jump target) = refl
   targets_under (Branch condition if_true if_false) = refl
@@ -238,7 +238,7 @@ module _ (new : ℕ → ℕ) where
 
     leading_under : (n p : ℕ) (bs : List Block) → leading (new n) p (map (block_under new) bs) ≡ leading n p bs
     leading_under n p [] = refl
-    leading_under n p (b ∷ bs) = λ i. (ap (repeated p (new n)) (targets_under b.end) ∙ repeated_under p n (targets b.end)) i ++ leading_under n (suc p) bs i
+    leading_under n p (b ∷ bs) = λ i. (ap (repeated p (new n)) (targets_under b.end) ∙ repeated_under p n (successors b.end)) i ++ leading_under n (suc p) bs i
 
     leading_to_under : (bs : List Block) (o : Option Block) → leading_to (map (block_under new) bs) (option_map (block_under new) o) ≡ leading_to bs o
     leading_to_under bs None = refl

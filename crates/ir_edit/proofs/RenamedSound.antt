@@ -5,7 +5,7 @@ use Rattle.std.proofs.lemmas.List.{map-append}
 use Rattle.std.proofs.lemmas.List.Elements.{All-map}
 use Rattle.std.proofs.lemmas.Option.{slice_get-map}
 use Rattle.ir_tree.specs.Forms.{Form, int, pointer, array, structure}
-use Rattle.ir_tree.specs.Flow.{holds, locals, targets}
+use Rattle.ir_tree.specs.Flow.{holds, locals, successors}
 use Rattle.ir_tree.specs.Formed.{ArgumentFormed, CaseFormed, CasesFormed, Distinct, Formed, InstrFormed, IsBlock, IsReg, ItemFormed, KindFormed, OperandFormed, ResultFormed, numbers}
 use Rattle.ir_tree.specs.Items.{Item, phi_item, line_item, end_item, end_reads, entries, items, operands, phi_reads, reads, taken_as, typed}
 use Rattle.ir_tree.specs.Rules.{CaseHas, CasesDiffer, EndDiffers, EndTypes, EntriesThere, Follow, HasEdges, HasType, IndicesFollow, IsNoPhi, IsThere, IsThereAtEnd, Keeps, KindTypes, LeavesEntry, LineCasts, LineFollows, LineOnEdges, LineTypes, OnEdges, ReadsThere, Sound, StandsRight, place}
@@ -114,8 +114,8 @@ module _ (new : ℕ → ℕ) (apart : IsOneToOne new) (f : Function) where
   cases_formed Unreachable h = tt
 
   -- what holds of each target of a terminator
-  targets_all : (P Q : ℕ → Type 0) (t : Terminator) → ((n : ℕ) → P n → Q (new n)) → All P (targets t) → All Q (targets (end_under new t))
-  targets_all P Q t f h = all_along Q (map new (targets t)) (targets (end_under new t)) (sym (targets_under new t)) (All-map Q new (targets t) (all_then P (λ n. Q (new n)) (targets t) f h))
+  targets_all : (P Q : ℕ → Type 0) (t : Terminator) → ((n : ℕ) → P n → Q (new n)) → All P (successors t) → All Q (successors (end_under new t))
+  targets_all P Q t f h = all_along Q (map new (successors t)) (successors (end_under new t)) (sym (targets_under new t)) (All-map Q new (successors t) (all_then P (λ n. Q (new n)) (successors t) f h))
 
   kind_formed : (item : Item) → KindFormed f item → KindFormed (renamed new f) (item_under new item)
   kind_formed (phi_item b phi) h = h

@@ -2,7 +2,7 @@
 use Rattle.std.proofs.Common.{◌≡◌, ℕ, suc, ◌+◌, nat_eq, ◌==◌, ◌||◌, ◌⊎◌, inl, inr, Bool, true, false, List, [], ◌∷◌, ◌++◌, Option, Some, None, map, refl, sym, ◌∙◌, ap, subst, arith, if◌then◌else◌}
 use Rattle.std.specs.Prelude.{slice_get, not, ◌&&◌}
 use Rattle.std.proofs.lemmas.Bool.{and_from, and_parts, cases_eq, eq-eqb, eqb-true, false≢true, or_cases, or_left, or_parts, or_right}
-use Rattle.ir_tree.specs.Flow.{Among, edges, leading, leading_to, locals, repeated, targets}
+use Rattle.ir_tree.specs.Flow.{Among, edges, leading, leading_to, locals, repeated, successors}
 use Rattle.ir_tree.specs.Formed.{Distinct, numbers}
 use Rattle.ir_tree.specs.Rules.{place}
 use Rattle.ir_tree.specs.declared.block.Block.{Block}
@@ -53,7 +53,7 @@ cases_from [] n h = absurd h
 cases_from (c ∷ cs) n (inl e) = inl (sym e)
 cases_from (c ∷ cs) n (inr h) = inr (cases_from cs n h)
 
-target_from : (t : Terminator) (n : ℕ) → Among n (targets t) → IsTarget t n
+target_from : (t : Terminator) (n : ℕ) → Among n (successors t) → IsTarget t n
 target_from (Return value) n h = absurd h
 target_from (Jump target) n (inl e) = sym e
 target_from (Jump target) n (inr h) = absurd h
@@ -83,17 +83,17 @@ record LeadsTo (n k : ℕ) (bs : List Block) (p : ℕ) : Type 0 where
   block : Block
   here : p ≡ k + at
   found : slice_get bs at ≡ Some block
-  leads : Among n (targets block.end)
+  leads : Among n (successors block.end)
 
 leading_from : (n k : ℕ) (bs : List Block) (p : ℕ) → Among p (leading n k bs) → LeadsTo n k bs p
 leading_from n k [] p h = absurd h
 leading_from n k (b ∷ bs) p h =
-    elim (among_either p (repeated k n (targets b.end)) (leading n (suc k) bs) h) [
-      | inl own ↦ first (repeated_from p k n (targets b.end) own)
+    elim (among_either p (repeated k n (successors b.end)) (leading n (suc k) bs) h) [
+      | inl own ↦ first (repeated_from p k n (successors b.end) own)
       | inr rest ↦ later (leading_from n (suc k) bs p rest)
     ]
   where
-    first : (p ≡ k) × Among n (targets b.end) → LeadsTo n k (b ∷ bs) p
+    first : (p ≡ k) × Among n (successors b.end) → LeadsTo n k (b ∷ bs) p
     first own = let same : p ≡ k = own.0 in record { at = 0; block = b; here = omega (arith, same); found = refl; leads = own.1 }
 
     later : LeadsTo n (suc k) bs p → LeadsTo n k (b ∷ bs) p
@@ -110,7 +110,7 @@ edge_back f p q a b e d edge = by (leading_from b.number 0 f.blocks p (subst (Am
         let same : p ≡ 0 + found.at = found.here in
         let at : p ≡ found.at = omega (arith, same) in
         let is : found.block ≡ a = cc (sym found.found, ap (slice_get f.blocks) at, e) in
-        target_from a.end b.number (subst (λ (c : Block). Among b.number (targets c.end)) is found.leads)
+        target_from a.end b.number (subst (λ (c : Block). Among b.number (successors c.end)) is found.leads)
 
 -- ---- one fact in a list, and its mark
 

@@ -19,7 +19,7 @@ use Rattle.ir_meaning.specs.Near.{BetterThan}
 use Rattle.ir_meaning.specs.Program.{Program}
 use Rattle.ir_meaning.specs.Facts.{BlockRight, BlocksRight, EdgeFacts, EdgesRead, EntryBare, Facts, IsOther, LineRule, LinesRight, PhisRead, RuleFor, behind_local, blocks_replaced, end_replaced, replaced}
 use Rattle.ir_meaning.specs.Formed.{IsFormed}
-use Rattle.ir_meaning.specs.Needed.{AllKept, EndReads, IsKept, Reads}
+use Rattle.ir_meaning.specs.Needed.{AllKept, EndReads, IsKept, UsesKept}
 use Rattle.ir_meaning.proofs.Alike.Itself.{same_better}
 use Rattle.ir_meaning.proofs.Facts.Known.{known_better}
 use Rattle.ir_edit.specs.Substituted.{replacement}
@@ -45,7 +45,7 @@ each_kept : (as' : List Argument) → AllKept every as'
 each_kept [] = tt
 each_kept (a ∷ as') = (all_kept a.operand, each_kept as')
 
-any_reads : (i : Instr) → Reads every i
+any_reads : (i : Instr) → UsesKept every i
 any_reads (Binary op f w l r) = (all_kept l, all_kept r)
 any_reads (Icmp p reg l r) = (all_kept l, all_kept r)
 any_reads (Cast op from o to) = all_kept o

@@ -22,7 +22,7 @@ use Rattle.ir_tree.specs.declared.operand.Operand.{Operand}
 use Rattle.ir_tree.specs.declared.operand.Operand.TheVariants.{Local, Null, Number as Constant, Poison as PoisonOf, Symbol as Named}
 use Rattle.ir_meaning.specs.Act.{find_block}
 use Rattle.ir_meaning.specs.Facts.{Facts, Has, behind_lines, behind_local, block_replaced, blocks_replaced, edges_replaced, end_replaced, is_local, lines_replaced, phis_replaced, replaced, replaced_local, with_fact, without}
-use Rattle.ir_meaning.specs.Needed.{AllKept, EndReads, IsKept, Reads}
+use Rattle.ir_meaning.specs.Needed.{AllKept, EndReads, IsKept, UsesKept}
 use Rattle.ir_tree.specs.Edited.{argument_edited, edited, end_edited, incoming_edited, instr_edited, line_edited, phi_edited, with_operands}
 use Rattle.ir_edit.specs.Substituted.{operand_replaced, or_local}
 use Rattle.ir_facts.specs.Agreement.{marks_of}
@@ -161,7 +161,7 @@ each_twice : (s : ℕ → Bool) (h g d : Operand → Operand) → ((o : Operand)
 each_twice s h g d e [] k = refl
 each_twice s h g d e (a ∷ more) k = λ i. record { reg = a.reg; operand = e a.operand k.0 i } ∷ each_twice s h g d e more k.1 i
 
-instr_twice : (s : ℕ → Bool) (h g d : Operand → Operand) → ((o : Operand) → IsKept s o → g (h o) ≡ d o) → (j : Instr) → IsNoPhi j → Reads s j
+instr_twice : (s : ℕ → Bool) (h g d : Operand → Operand) → ((o : Operand) → IsKept s o → g (h o) ≡ d o) → (j : Instr) → IsNoPhi j → UsesKept s j
     → instr_edited (λ x. x) g (instr_edited (λ x. x) h j) ≡ with_operands d j
 instr_twice s h g d e (Binary op f w l r) n k = λ i. Binary op f w (e l k.0 i) (e r k.1 i)
 instr_twice s h g d e (Icmp p reg l r) n k = λ i. Icmp p reg (e l k.0 i) (e r k.1 i)

@@ -20,7 +20,7 @@ use Rattle.ir_tree.specs.declared.operand.Argument.{Argument}
 use Rattle.ir_tree.specs.declared.operand.Operand.{Operand}
 use Rattle.ir_tree.specs.declared.operand.Operand.TheVariants.{Local, Null, Number as Constant, Poison as PoisonOf, Symbol as Named}
 use Rattle.ir_tree.specs.declared.operand.Reg.TheVariants.{Int, Ptr}
-use Rattle.ir_meaning.specs.Needed.{AllKept, EndReads, IsKept, Reads}
+use Rattle.ir_meaning.specs.Needed.{AllKept, EndReads, IsKept, UsesKept}
 use Rattle.ir_facts.proofs.Blocks.{find_at}
 use Rattle.ir_facts.proofs.Covering.{at_end_is}
 use Rattle.ir_facts.proofs.Covers.{Covers, EdgesCovered, LinesCovered, PhisCovered, TakenAt, behind, behind_is, closing, opening, with_named}
@@ -41,7 +41,7 @@ module _ (s : ℕ → Bool) where
   kept_each [] h = none_all Kept
   kept_each (a ∷ more) h = All-cons Kept a more h.0 (kept_each more h.1)
 
-  pub kept_reads : (i : Instr) → Reads s i → All Kept (reads i)
+  pub kept_reads : (i : Instr) → UsesKept s i → All Kept (reads i)
   kept_reads (Binary op flags w l r) h = kept_each (typed (Int w) l ∷ typed (Int w) r ∷ []) (h.0, (h.1, tt))
   kept_reads (Icmp p reg l r) h = kept_each (typed reg l ∷ typed reg r ∷ []) (h.0, (h.1, tt))
   kept_reads (Cast op from o to) h = kept_each (typed from o ∷ []) (h, tt)

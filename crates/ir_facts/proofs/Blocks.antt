@@ -2,7 +2,7 @@
 use Rattle.std.proofs.Common.{◌≡◌, ℕ, zero, suc, ◌+◌, nat_eq, ◌==◌, ◌⊎◌, inl, inr, Bool, true, false, List, [], ◌∷◌, ◌++◌, Option, Some, map, refl, sym, ◌∙◌, ap, subst, arith, if◌then◌else◌}
 use Rattle.std.specs.Prelude.{slice_get}
 use Rattle.std.proofs.lemmas.Bool.{eq-eqb, eqb-true}
-use Rattle.ir_tree.specs.Flow.{Among, edges, leading, leading_to, locals, repeated, targets}
+use Rattle.ir_tree.specs.Flow.{Among, edges, leading, leading_to, locals, repeated, successors}
 use Rattle.ir_tree.specs.Formed.{Distinct, numbers}
 use Rattle.ir_tree.specs.Rules.{place}
 use Rattle.ir_tree.specs.declared.block.Block.{Block}
@@ -52,7 +52,7 @@ in_cases [] n h = absurd h
 in_cases (c ∷ cs) n (inl e) = inl (sym e)
 in_cases (c ∷ cs) n (inr h) = inr (in_cases cs n h)
 
-pub target_among : (t : Terminator) (n : ℕ) → IsTarget t n → Among n (targets t)
+pub target_among : (t : Terminator) (n : ℕ) → IsTarget t n → Among n (successors t)
 target_among (Return value) n h = absurd h
 target_among (Jump target) n h = inl (sym h)
 target_among (Branch c yes' no') n (inl e) = inl (sym e)
@@ -79,16 +79,16 @@ repeated_has p n (t ∷ ts) h = by (nat_eq t n) refl h (λ h'. repeated_has p n 
     by false q (inl e) more = absurd (let clash : false ≡ true = sym q ∙ eq-eqb t n (sym e) in cc clash)
     by false q (inr h') more = more h'
 
-leading_has : (n k : ℕ) (bs : List Block) (p : ℕ) (a : Block) → slice_get bs p ≡ Some a → Among n (targets a.end) → Among (k + p) (leading n k bs)
+leading_has : (n k : ℕ) (bs : List Block) (p : ℕ) (a : Block) → slice_get bs p ≡ Some a → Among n (successors a.end) → Among (k + p) (leading n k bs)
 leading_has n k [] p a e h = absurd (cc e)
 leading_has n k (b ∷ bs) zero a e h =
     let is : b ≡ a = cc e in
     let at : k ≡ k + 0 = omega arith in
-    among_left (k + 0) (repeated k n (targets b.end)) (leading n (suc k) bs)
-    (subst (λ (j : ℕ). Among j (repeated k n (targets b.end))) at (repeated_has k n (targets b.end) (subst (λ (c : Block). Among n (targets c.end)) (sym is) h)))
+    among_left (k + 0) (repeated k n (successors b.end)) (leading n (suc k) bs)
+    (subst (λ (j : ℕ). Among j (repeated k n (successors b.end))) at (repeated_has k n (successors b.end) (subst (λ (c : Block). Among n (successors c.end)) (sym is) h)))
 leading_has n k (b ∷ bs) (suc p) a e h =
     let at : suc k + p ≡ k + suc p = omega arith in
-    among_right (k + suc p) (repeated k n (targets b.end)) (leading n (suc k) bs) (subst (λ (j : ℕ). Among j (leading n (suc k) bs)) at (leading_has n (suc k) bs p a e h))
+    among_right (k + suc p) (repeated k n (successors b.end)) (leading n (suc k) bs) (subst (λ (j : ℕ). Among j (leading n (suc k) bs)) at (leading_has n (suc k) bs p a e h))
 
 -- a block that leads to another is among its predecessors
 pub edge_of : (f : Function) (p q : ℕ) (a b : Block) → slice_get f.blocks p ≡ Some a → slice_get f.blocks q ≡ Some b → IsTarget a.end b.number → Among p (edges f q)

@@ -25,7 +25,7 @@ use Rattle.ir_tree.specs.declared.operand.Operand.TheVariants.{Local, Null, Numb
 use Rattle.ir_tree.specs.declared.operand.Reg.TheVariants.{Int, Ptr}
 use Rattle.ir_tree.specs.declared.rule.Rule.TheVariants.{NotAvailable, PhiEdges, PhiPlace}
 use Rattle.ir_meaning.specs.Facts.{edge_operand}
-use Rattle.ir_meaning.specs.Needed.{AllKept, EndReads, IsKept, Reads}
+use Rattle.ir_meaning.specs.Needed.{AllKept, EndReads, IsKept, UsesKept}
 use Rattle.ir_facts.proofs.Covers.{BlockCovered, Covers, EdgesCovered, HasEntry, LinesCovered, PhisCovered, PhisEntered, TakenAt, behind, behind_is, closing, opening, with_named}
 
 -- ---- of each element
@@ -212,7 +212,7 @@ module _ (f : Function) where
   each_kept s [] h = tt
   each_kept s (a ∷ more) h = (All-head (λ a. IsKept s a.operand) a more h, each_kept s more (All-tail (λ a. IsKept s a.operand) a more h))
 
-  pub reads_kept : (s : ℕ → Bool) (i : Instr) → All (λ a. IsKept s a.operand) (reads i) → Reads s i
+  pub reads_kept : (s : ℕ → Bool) (i : Instr) → All (λ a. IsKept s a.operand) (reads i) → UsesKept s i
   reads_kept s (Binary op flags w l r) h = let k = each_kept s (reads (Binary op flags w l r)) h in (k.0, k.1.0)
   reads_kept s (Icmp p reg l r) h = let k = each_kept s (reads (Icmp p reg l r)) h in (k.0, k.1.0)
   reads_kept s (Cast op from o to) h = (each_kept s (reads (Cast op from o to)) h).0

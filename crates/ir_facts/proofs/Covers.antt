@@ -13,7 +13,7 @@ use Rattle.ir_tree.specs.declared.instr.Line.{Line}
 use Rattle.ir_tree.specs.declared.instr.Phi.{Phi}
 use Rattle.ir_tree.specs.declared.operand.Operand.{Operand}
 use Rattle.ir_meaning.specs.Facts.{edge_operand}
-use Rattle.ir_meaning.specs.Needed.{EndReads, IsKept, Reads}
+use Rattle.ir_meaning.specs.Needed.{EndReads, IsKept, UsesKept}
 
 -- ---- sets along the lines of a block
 
@@ -61,7 +61,7 @@ closing_is r p b x =
 
 abbrev pub LinesCovered : (ℕ → Bool) → List Line → Type 0
 LinesCovered s [] = Unit {0}
-LinesCovered s (l ∷ ls) = IsNoPhi l.instr × Reads s l.instr × LinesCovered (with_named s l.local) ls
+LinesCovered s (l ∷ ls) = IsNoPhi l.instr × UsesKept s l.instr × LinesCovered (with_named s l.local) ls
 
 -- an operand that is taken at the end of the block of a number
 pub record TakenAt (r : ℕ → ℕ → Bool) (f : Function) (n : ℕ) (o : Operand) : Type 0 where

@@ -2,7 +2,7 @@
 use Rattle.std.proofs.Common.{◌≡◌, ℕ, zero, suc, List, [], ◌∷◌, ◌++◌, Option, Some, None, map, option_map, refl, ◌∙◌, ap}
 use Rattle.std.specs.Prelude.{slice_get, flat_map}
 use Rattle.std.specs.List.{cons_option}
-use Rattle.ir_tree.specs.Flow.{definitions, edges, leading, leading_to, locals, repeated, results, targets}
+use Rattle.ir_tree.specs.Flow.{definitions, edges, leading, leading_to, locals, repeated, results, successors}
 use Rattle.ir_tree.specs.Formed.{numbers}
 use Rattle.ir_tree.specs.declared.block.Block.{Block}
 use Rattle.ir_tree.specs.declared.block.Case.{Case}
@@ -38,7 +38,7 @@ module _ (h : Operand → Operand) where
   cases_same [] = refl
   cases_same (c ∷ cs) = ap (λ (xs : List ℕ). c.target ∷ xs) (cases_same cs)
 
-  pub targets_same : (t : Terminator) → targets (end_edited (λ x. x) h t) ≡ targets t
+  pub targets_same : (t : Terminator) → successors (end_edited (λ x. x) h t) ≡ successors t
   targets_same (Return value) = refl
   targets_same (Jump target) = refl
   targets_same (Branch condition if_true if_false) = refl

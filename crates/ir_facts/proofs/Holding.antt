@@ -20,7 +20,7 @@ use Rattle.ir_tree.specs.declared.operand.Operand.{Operand}
 use Rattle.ir_tree.specs.declared.operand.Operand.TheVariants.{Local, Null, Number as Constant, Poison as PoisonOf, Symbol as Named}
 use Rattle.ir_meaning.specs.Act.{find_block}
 use Rattle.ir_meaning.specs.Facts.{EdgeFacts, EntryIs, Facts, Has, IsTarget, behind_lines, behind_local, block_replaced, blocks_replaced, edge_operand, edges_replaced, end_replaced, is_local, is_phi, is_phi_operand, lines_replaced, phi_operand, phis_replaced, replaced, replaced_local, with_fact, without}
-use Rattle.ir_meaning.specs.Needed.{AllKept, EndReads, IsKept, Reads}
+use Rattle.ir_meaning.specs.Needed.{AllKept, EndReads, IsKept, UsesKept}
 use Rattle.ir_tree.specs.Edited.{argument_edited, case_edited, edited, end_edited, incoming_edited, instr_edited, line_edited, param_edited, phi_edited, with_operands}
 use Rattle.ir_edit.specs.Substituted.{operand_replaced, or_local}
 use Rattle.ir_flow.proofs.Solved.{at_end}
@@ -159,7 +159,7 @@ module _ (c : ℕ → Option Operand) where
   each_same s h e [] k = refl
   each_same s h e (a ∷ more) k = λ i. record { reg = a.reg; operand = e a.operand k.0 i } ∷ each_same s h e more k.1 i
 
-  pub instr_same : (s : ℕ → Bool) (h : Operand → Operand) → SameOn s h → (j : Instr) → IsNoPhi j → Reads s j → with_operands h j ≡ instr_edited (λ x. x) g j
+  pub instr_same : (s : ℕ → Bool) (h : Operand → Operand) → SameOn s h → (j : Instr) → IsNoPhi j → UsesKept s j → with_operands h j ≡ instr_edited (λ x. x) g j
   instr_same s h e (Binary op f w l r) n k = λ i. Binary op f w (e l k.0 i) (e r k.1 i)
   instr_same s h e (Icmp p reg l r) n k = λ i. Icmp p reg (e l k.0 i) (e r k.1 i)
   instr_same s h e (Cast op from o to) n k = λ i. Cast op from (e o k i) to

@@ -7,7 +7,7 @@ use Rattle.ir_tree.specs.declared.instr.Instr.TheVariants.{Address, Alloca, Bina
 use Rattle.ir_tree.specs.declared.operand.Argument.{Argument}
 use Rattle.ir_tree.specs.declared.operand.Operand.{Operand}
 use Rattle.ir_tree.specs.declared.operand.Operand.TheVariants.{Local, Null, Number as Constant, Poison as PoisonOf, Symbol as Named}
-use Rattle.ir_meaning.specs.Needed.{AllKept, EndReads, IsKept, Reads}
+use Rattle.ir_meaning.specs.Needed.{AllKept, EndReads, IsKept, UsesKept}
 use Rattle.fact_sources.specs.Membership.{is_member}
 use Rattle.fact_sources.specs.Naming.{arguments_name, end_names, instr_names}
 use Rattle.fact_sources.proofs.Neither.{neither}
@@ -29,7 +29,7 @@ module _ (s t among : ℕ → Bool) (into : (x : ℕ) → s x ≡ true → among
   both_into : (l r : Operand) → (is_member among l || is_member among r) ≡ false → IsKept s l → IsKept s r → IsKept t l × IsKept t r
   both_into l r h a b = let two = neither (is_member among l) (is_member among r) h in (operand_into l two.0 a, operand_into r two.1 b)
 
-  pub instr_into : (i : Instr) → instr_names among i ≡ false → Reads s i → Reads t i
+  pub instr_into : (i : Instr) → instr_names among i ≡ false → UsesKept s i → UsesKept t i
   instr_into (Binary op flags w l r) h k = both_into l r h k.0 k.1
   instr_into (Icmp p reg l r) h k = both_into l r h k.0 k.1
   instr_into (Cast op from o to) h k = operand_into o h k

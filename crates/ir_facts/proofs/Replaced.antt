@@ -2,7 +2,7 @@
 use Rattle.std.proofs.Common.{◌≡◌, ℕ, zero, suc, nat_eq, ◌||◌, List, [], ◌∷◌, ◌++◌, Option, Some, None, length, map, option_map, refl, ◌∙◌, ap, if◌then◌else◌}
 use Rattle.std.specs.Prelude.{slice_get, flat_map, filter_map}
 use Rattle.std.specs.List.{cons_option}
-use Rattle.ir_tree.specs.Flow.{availability, defined_in, definitions, edges, entry_row, holds, leading, leading_to, locals, parameters, repeated, results, room, targets}
+use Rattle.ir_tree.specs.Flow.{availability, defined_in, definitions, edges, entry_row, holds, leading, leading_to, locals, parameters, repeated, results, room, successors}
 use Rattle.ir_tree.specs.Formed.{numbers}
 use Rattle.ir_tree.specs.Rules.{Typing, block_typings, line_typing, place, result_type, typings}
 use Rattle.ir_tree.specs.declared.block.Block.{Block}
@@ -56,7 +56,7 @@ result_still h (Address inbounds shape o is) = refl
 result_still h (Call result o args) = refl
 result_still h (StrayPhi reg es) = refl
 
-targets_still : (fs : Facts) (t : Terminator) → targets (end_replaced fs t) ≡ targets t
+targets_still : (fs : Facts) (t : Terminator) → successors (end_replaced fs t) ≡ successors t
 targets_still fs (Return argument) = refl
 targets_still fs (Jump target) = refl
 targets_still fs (Branch o yes' no') = refl

@@ -4,7 +4,7 @@ use Rattle.std.specs.Prelude.{All}
 use Rattle.std.specs.List.{count_by}
 use Rattle.std.proofs.lemmas.Bool.{eqb-true}
 use Rattle.std.proofs.lemmas.List.Elements.{All-cons, All-head, All-tail}
-use Rattle.ir_tree.specs.Flow.{edges, holds, locals, targets}
+use Rattle.ir_tree.specs.Flow.{edges, holds, locals, successors}
 use Rattle.ir_tree.specs.Formed.{ArgumentFormed, Distinct, IsBlock, ItemFormed, KindFormed, OperandFormed, numbers}
 use Rattle.ir_tree.specs.Items.{Item, phi_item, line_item, end_item, block_items, entries, items, items_from, lines_from, operands, taken_as, typed}
 use Rattle.ir_tree.specs.Rules.{CastsRight, DiffersRight, EndTypes, EntriesThere, Follows, HasEdges, HasType, Keeps, KindTypes, LeavesEntry, LineOnEdges, OnEdges, ReadsThere, Sound, StandsRight, Typing, place, type_of, typing, typings}
@@ -70,7 +70,7 @@ module _ (f g : Function) (like : Alike f g) where
   kind_moved : (item : Item) → KindFormed f item → KindFormed g item
   kind_moved (phi_item b phi) k = k
   kind_moved (line_item b n l) k = k
-  kind_moved (end_item b t) k = (k.0, all_then (IsBlock f) (IsBlock g) (targets t) block_moved k.1)
+  kind_moved (end_item b t) k = (k.0, all_then (IsBlock f) (IsBlock g) (successors t) block_moved k.1)
 
   pub formed_moved : (item : Item) → ItemFormed f item → ItemFormed g item
   formed_moved item k = record {
@@ -128,7 +128,7 @@ module _ (f g : Function) (like : Alike f g) where
   leaves_moved (phi_item b phi) k = tt
   leaves_moved (line_item b n l) k = tt
   leaves_moved (end_item b t) k =
-      all_then (λ n. place f.blocks n ≡ 0 → ⊥) (λ n. place g.blocks n ≡ 0 → ⊥) (targets t) (λ n away here. away (like.places_are n ∙ here)) k
+      all_then (λ n. place f.blocks n ≡ 0 → ⊥) (λ n. place g.blocks n ≡ 0 → ⊥) (successors t) (λ n away here. away (like.places_are n ∙ here)) k
 
 -- ---- items, before and after
 

@@ -20,7 +20,7 @@ use Rattle.ir_tree.specs.Symbols.{symbol_eq}
 use Rattle.ir_meaning.specs.Arithmetic.{compare, is_division}
 use Rattle.ir_meaning.specs.declared.value.Value.TheVariants.{Number, Pointer, Poison}
 use Rattle.ir_meaning.specs.Table.{address_rule, all_zero, any_poison, binary_rule, cast_constant, cast_numbers, cast_rule, compared_addresses, compared_constants, compared_numbers, comparison_rule, constant_answer, constant_indices, equality, first, folded_or, freeze_rule, frozen_number, is_number, is_poison, is_reflexive, number_of, poisoned, rule, same, select_rule, selected_number, symbol_at, truth, unchanged, when, zeroed}
-use Rattle.ir_meaning.specs.Needed.{IsKept, Reads}
+use Rattle.ir_meaning.specs.Needed.{IsKept, UsesKept}
 
 -- an operand of which this holds, if there is one
 abbrev pub Of : (Operand → Type 0) → Option Operand → Type 0
@@ -211,7 +211,7 @@ module _ (keeps : ℕ → Bool) where
   symbol_kept shape Null is = tt
   symbol_kept shape (PoisonOf reg) is = tt
 
-  row_kept : (i : Instr) → Reads keeps i → Of (IsKept keeps) (rule i)
+  row_kept : (i : Instr) → UsesKept keeps i → Of (IsKept keeps) (rule i)
   row_kept (Binary op f w l r) h = binary_of (IsKept keeps) op f w l r h.0 h.1 (folded_kept op f w (number_of w l) (number_of w r)) tt tt
   row_kept (Icmp p reg l r) h = comparison_kept p reg l r
   row_kept (Cast op from o to) h = cast_of (IsKept keeps) op from to o (cast_kept op from to o) tt
@@ -224,5 +224,5 @@ module _ (keeps : ℕ → Bool) where
   row_kept (Call result callee arguments) h = tt
   row_kept (StrayPhi reg es) h = tt
 
-  pub rule_kept : (i : Instr) (v : Operand) → Reads keeps i → rule i ≡ Some v → IsKept keeps v
+  pub rule_kept : (i : Instr) (v : Operand) → UsesKept keeps i → rule i ≡ Some v → IsKept keeps v
   rule_kept i v h e = of_some (IsKept keeps) (rule i) v e (row_kept i h)

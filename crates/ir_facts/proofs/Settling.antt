@@ -5,7 +5,7 @@ use Rattle.std.specs.List.{cons_option}
 use Rattle.std.proofs.lemmas.List.{length-map}
 use Rattle.std.proofs.lemmas.Option.{slice_get-map}
 use Rattle.lto_sets.specs.Sets.{contains}
-use Rattle.ir_tree.specs.Flow.{Among, AvailableAt, Equations, IsMarked, Path, availability, defined_before, defined_in, definitions, edges, entry_row, holds, leading, leading_to, line_count, locals, parameters, phi_locals, repeated, results, room, targets}
+use Rattle.ir_tree.specs.Flow.{Among, AvailableAt, Equations, IsMarked, Path, availability, defined_before, defined_in, definitions, edges, entry_row, holds, leading, leading_to, line_count, locals, parameters, phi_locals, repeated, results, room, successors}
 use Rattle.ir_tree.specs.Formed.{numbers}
 use Rattle.ir_tree.specs.Rules.{Typing, block_typings, line_typing, place, typings}
 use Rattle.ir_tree.specs.declared.block.Block.{Block}
@@ -43,7 +43,7 @@ numbers_from (b ∷ bs) = ap (λ (xs : List ℕ). b.number ∷ xs) (numbers_from
 
 leading_settled : (n p : ℕ) (bs : List Block) → leading n p (map settled_block bs) ≡ leading n p bs
 leading_settled n p [] = refl
-leading_settled n p (b ∷ bs) = ap (λ (xs : List ℕ). repeated p n (targets b.end) ++ xs) (leading_settled n (suc p) bs)
+leading_settled n p (b ∷ bs) = ap (λ (xs : List ℕ). repeated p n (successors b.end) ++ xs) (leading_settled n (suc p) bs)
 
 leading_to_settled : (bs : List Block) (o : Option Block) → leading_to (map settled_block bs) (option_map settled_block o) ≡ leading_to bs o
 leading_to_settled bs None = refl

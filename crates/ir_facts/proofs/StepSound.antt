@@ -6,7 +6,7 @@ use Rattle.std.proofs.lemmas.List.Elements.{All-map}
 use Rattle.std.proofs.lemmas.List.Sums.{sum_by-cons}
 use Rattle.std.proofs.lemmas.Option.{slice_get-map}
 use Rattle.ir_tree.specs.Forms.{Form, int, pointer, array, structure}
-use Rattle.ir_tree.specs.Flow.{holds, targets}
+use Rattle.ir_tree.specs.Flow.{holds, successors}
 use Rattle.ir_tree.specs.Formed.{ArgumentFormed, CaseFormed, CasesFormed, InstrFormed, IsBlock, ItemFormed, KindFormed, ResultFormed}
 use Rattle.ir_tree.specs.Items.{Item, phi_item, line_item, end_item, entries, operands, taken, typed}
 use Rattle.ir_tree.specs.Rules.{CaseHas, CasesDiffer, CastsRight, DiffersRight, EndDiffers, EndTypes, Follow, Follows, HasEdges, HasType, IndicesFollow, IsNoPhi, Keeps, KindTypes, LeavesEntry, LineCasts, LineFollows, LineOnEdges, LineTypes, OnEdges, StandsRight, place}
@@ -119,8 +119,8 @@ module _ (h : Operand → Operand) (f : Function) (takes : (o : Operand) (t : Re
   cases_formed (Switch width value default cases) k = All-map CaseFormed (case_edited (λ x. x)) cases k
   cases_formed Unreachable k = tt
 
-  targets_all : (P Q : ℕ → Type 0) (t : Terminator) → ((n : ℕ) → P n → Q n) → All P (targets t) → All Q (targets (end_edited (λ x. x) h t))
-  targets_all P Q t to k = all_along Q (targets t) (targets (end_edited (λ x. x) h t)) (sym (targets_same h t)) (all_then P Q (targets t) to k)
+  targets_all : (P Q : ℕ → Type 0) (t : Terminator) → ((n : ℕ) → P n → Q n) → All P (successors t) → All Q (successors (end_edited (λ x. x) h t))
+  targets_all P Q t to k = all_along Q (successors t) (successors (end_edited (λ x. x) h t)) (sym (targets_same h t)) (all_then P Q (successors t) to k)
 
   kind_formed : (item : Item) → KindFormed f item → KindFormed g (item_by h item)
   kind_formed (phi_item b phi) k = k

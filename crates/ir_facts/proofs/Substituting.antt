@@ -21,7 +21,7 @@ use Rattle.ir_tree.specs.declared.operand.Argument.{Argument}
 use Rattle.ir_tree.specs.declared.operand.Operand.{Operand}
 use Rattle.ir_tree.specs.declared.operand.Operand.TheVariants.{Local, Null, Number as Constant, Poison as PoisonOf, Symbol as Named}
 use Rattle.ir_meaning.specs.Facts.{edge_operand, is_local}
-use Rattle.ir_meaning.specs.Needed.{AllKept, EndReads, IsKept, Reads}
+use Rattle.ir_meaning.specs.Needed.{AllKept, EndReads, IsKept, UsesKept}
 use Rattle.ir_tree.specs.Edited.{argument_edited, end_edited, instr_edited}
 use Rattle.ir_edit.specs.Substituted.{operand_replaced, or_local}
 use Rattle.ir_flow.proofs.Reaching.{edge-from}
@@ -39,7 +39,7 @@ each_taken : (s s' : ℕ → Bool) (h : Operand → Operand) → Takes s s' h �
 each_taken s s' h t [] k = tt
 each_taken s s' h t (a ∷ more) k = (t a.operand k.0, each_taken s s' h t more k.1)
 
-pub instr_taken : (s s' : ℕ → Bool) (h : Operand → Operand) → Takes s s' h → (i : Instr) → Reads s i → Reads s' (instr_edited (λ x. x) h i)
+pub instr_taken : (s s' : ℕ → Bool) (h : Operand → Operand) → Takes s s' h → (i : Instr) → UsesKept s i → UsesKept s' (instr_edited (λ x. x) h i)
 instr_taken s s' h t (Binary op f w l r) k = (t l k.0, t r k.1)
 instr_taken s s' h t (Icmp p reg l r) k = (t l k.0, t r k.1)
 instr_taken s s' h t (Cast op from o to) k = t o k
@@ -103,7 +103,7 @@ named_less s s' o less x h =
       | inr b ↦ or_right (s' x) (named o x) b
     ]
 
-pub named_sourced : (c : ℕ → Option Operand) (s s' : ℕ → Bool) (l : Line) → Less s s' → Sourced c s s' → LineSource c l.local l.instr → Reads s l.instr → Sourced c (with_named s l.local) (with_named s' l.local)
+pub named_sourced : (c : ℕ → Option Operand) (s s' : ℕ → Bool) (l : Line) → Less s s' → Sourced c s s' → LineSource c l.local l.instr → UsesKept s l.instr → Sourced c (with_named s l.local) (with_named s' l.local)
 named_sourced c s s' l less src line reads x z h e =
     elim (or_cases (s x) (named l.local x) h) [
       | inl a ↦ or_left (s' z) (named l.local z) (src x z a e)

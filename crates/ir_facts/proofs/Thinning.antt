@@ -13,7 +13,7 @@ use Rattle.ir_tree.specs.declared.instr.Line.{Line}
 use Rattle.ir_tree.specs.declared.instr.Phi.{Phi}
 use Rattle.ir_tree.specs.declared.operand.Operand.{Operand}
 use Rattle.ir_meaning.specs.Facts.{is_phi}
-use Rattle.ir_meaning.specs.Needed.{IsKept, Reads}
+use Rattle.ir_meaning.specs.Needed.{IsKept, UsesKept}
 use Rattle.ir_flow.proofs.Solved.{at_end, at_ends}
 use Rattle.fact_sources.specs.Candidates.{phi_candidates}
 use Rattle.fact_sources.specs.Apart.{defined, is_listed}
@@ -54,7 +54,7 @@ module _ (bar own : ℕ → Bool) where
       by true false o f g' = absurd (false≢true (sym g'))
       by false f o q g' = left.apart x two.0 o (not_false (bar x) two.1)
 
-  line_left : (s t front : ℕ → Bool) → Left s t front → (i : Instr) → (instr_names bar i || instr_names (beside own front) i) ≡ false → Reads s i → Reads t i
+  line_left : (s t front : ℕ → Bool) → Left s t front → (i : Instr) → (instr_names bar i || instr_names (beside own front) i) ≡ false → UsesKept s i → UsesKept t i
   line_left s t front left i h k =
       let two = neither (instr_names bar i) (instr_names (beside own front) i) h in
       instr_into (other s) t (beside own front) (left_there s t front left) i two.1

@@ -5,13 +5,13 @@ use Rattle.std.proofs.lemmas.List.{get_or-map, length-map}
 use Rattle.std.proofs.lemmas.Option.{get_or_from_slice_get}
 use Rattle.ir_tree.specs.declared.block.Block.{Block}
 use Rattle.ir_tree.specs.declared.function.Function.{Function}
-use Rattle.ir_tree.specs.Flow.{targets, repeated, leading, leading_to, edges}
+use Rattle.ir_tree.specs.Flow.{successors, repeated, leading, leading_to, edges}
 use Rattle.ir_flow.specs.Graph.{row, gathered, IsInverse}
 use Rattle.ir_flow.specs.OfFunction.{IsGraphOf}
 
-pub gathered-leading : (k p : ℕ) (bs : List Block) → gathered k p (map (λ b. targets b.end) bs) ≡ leading k p bs
+pub gathered-leading : (k p : ℕ) (bs : List Block) → gathered k p (map (λ b. successors b.end) bs) ≡ leading k p bs
 gathered-leading k p [] = refl
-gathered-leading k p (b ∷ bs) = ap (λ xs. repeated p k (targets b.end) ++ xs) (gathered-leading k (suc p) bs)
+gathered-leading k p (b ∷ bs) = ap (λ xs. repeated p k (successors b.end) ++ xs) (gathered-leading k (suc p) bs)
 
 some_at : {X : Type 0} (xs : List X) (b : ℕ) → b < length xs → (x : X) × (slice_get xs b ≡ Some x)
 some_at [] b h = absurd (omega arith)
@@ -19,7 +19,7 @@ some_at (x ∷ xs) zero h = (x, refl)
 some_at (x ∷ xs) (suc b) h = let k : b < length xs = omega arith in some_at xs b k
 
 pub graph_of : (f : Function) (numbers : List ℕ) (turned graph : List (List ℕ)) (limit : ℕ) → numbers ≡ map (λ b. b.number) f.blocks
-    → ((k : ℕ) → k < length numbers → get_or numbers k 0 < limit) → IsInverse (map (λ b. targets b.end) f.blocks) limit turned
+    → ((k : ℕ) → k < length numbers → get_or numbers k 0 < limit) → IsInverse (map (λ b. successors b.end) f.blocks) limit turned
     → graph ≡ map (row turned) numbers → length f.blocks < 2 ^ 32 → IsGraphOf f graph
 graph_of f numbers turned graph limit is below inverse made short =
     let count : length numbers ≡ length f.blocks = ap length is ∙ length-map f.blocks _ in

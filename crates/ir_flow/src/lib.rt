@@ -11,7 +11,7 @@
 //!
 //! **Cost.** Edges and reached blocks take time and memory linear in blocks, edges and the greatest number of a block.
 //! Dominators take two rounds over the edges where control flow is reducible, each meeting of two blocks a logarithm of
-//! the tree's depth, and three numbers a block; elsewhere a round more for each round in which a link moves.
+//! the tree's depth, and three numbers a block; elsewhere a round more for each in which an immediate dominator moves.
 //! [`greatest`] takes a bit for each pair of block and member.
 //!
 //! **Not shown.** How many rounds there are; that memory is found.

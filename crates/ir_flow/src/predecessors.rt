@@ -2,7 +2,7 @@
 ghost use Rattle.std.specs.Prelude.{◌≡◌, ℕ, ◌<◌, ◌++◌, map, length, slice_index, IfOk, OnOk};
 ghost use Rattle.ir_flow.specs.Graph.{row};
 ghost use Rattle.ir_flow.specs.OfFunction.{IsGraphOf};
-ghost use Rattle.ir_tree.specs.Flow.{targets as targets_of};
+ghost use Rattle.ir_tree.specs.Flow.{successors as targets_of};
 
 use crate::graph::Edges;
 use ir_tree::{Block, Function, Terminator};

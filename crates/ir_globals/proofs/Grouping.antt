@@ -1,6 +1,6 @@
 -- Type definitions and variables, read as calls read them.
 use Rattle.std.proofs.Common.{◌≡◌, Bool, Option, List, [], ◌∷◌, ◌++◌, Result, Ok, Err, refl}
-use Rattle.ir_lex.specs.declared.head.Head.TheVariants as heads
+use Rattle.ir_lex.specs.declared.token_kind.TokenKind.TheVariants as kinds
 use Rattle.ir_lex.specs.Tok.{Tok}
 use Rattle.ir_tree.specs.declared.function.Linkage.{Linkage}
 use Rattle.ir_read.specs.declared.fault.Fault.{Fault}
@@ -30,13 +30,13 @@ module _ (front : List Item) where
       by_type name (Err e) = refl
 
       by_equals : (name : Tok) (r : Result (Unit {0} × List Tok) Fault)
-          → follow (follow r (λ _. the_at heads.Type >>= λ _. defined_at >>= λ typed. done (items.Type name typed))) pushed_to ≡ follow (follow r (λ _. the_at heads.Type >>= λ _. done name)) behind_name
-      by_equals name (Ok x) = by_type name (the_at heads.Type x.1)
+          → follow (follow r (λ _. the_at kinds.Type >>= λ _. defined_at >>= λ typed. done (items.Type name typed))) pushed_to ≡ follow (follow r (λ _. the_at kinds.Type >>= λ _. done name)) behind_name
+      by_equals name (Ok x) = by_type name (the_at kinds.Type x.1)
       by_equals name (Err e) = refl
 
       by_name : (r : Result (Tok × List Tok) Fault)
-          → follow (follow r (λ name. the_at heads.Equals >>= λ _. the_at heads.Type >>= λ _. defined_at >>= λ typed. done (items.Type name typed))) pushed_to ≡ follow (follow r (λ name. the_at heads.Equals >>= λ _. the_at heads.Type >>= λ _. done name)) behind_name
-      by_name (Ok x) = by_equals x.0 (the_at heads.Equals x.1)
+          → follow (follow r (λ name. the_at kinds.Equals >>= λ _. the_at kinds.Type >>= λ _. defined_at >>= λ typed. done (items.Type name typed))) pushed_to ≡ follow (follow r (λ name. the_at kinds.Equals >>= λ _. the_at kinds.Type >>= λ _. done name)) behind_name
+      by_name (Ok x) = by_equals x.0 (the_at kinds.Equals x.1)
       by_name (Err e) = refl
 
   abbrev behind_headed : Tok × (Option Linkage × Bool) → Reader Tok (List Item)
@@ -61,6 +61,6 @@ module _ (front : List Item) where
       by_equals name (Err e) = refl
 
       by_name : (r : Result (Tok × List Tok) Fault)
-          → follow (follow r (λ name. the_at heads.Equals >>= λ _. linked_at >>= λ l. one_of_at KINDS is_constant >>= λ constant. behind_kind_at name l constant)) pushed_to ≡ follow (follow r (λ name. the_at heads.Equals >>= λ _. linked_at >>= λ l. one_of_at KINDS is_constant >>= λ constant. done (name, (l, constant)))) behind_headed
-      by_name (Ok x) = by_equals x.0 (the_at heads.Equals x.1)
+          → follow (follow r (λ name. the_at kinds.Equals >>= λ _. linked_at >>= λ l. one_of_at KINDS is_constant >>= λ constant. behind_kind_at name l constant)) pushed_to ≡ follow (follow r (λ name. the_at kinds.Equals >>= λ _. linked_at >>= λ l. one_of_at KINDS is_constant >>= λ constant. done (name, (l, constant)))) behind_headed
+      by_name (Ok x) = by_equals x.0 (the_at kinds.Equals x.1)
       by_name (Err e) = refl

@@ -3,10 +3,10 @@ use Rattle.std.proofs.Common.{◌≡◌, ℕ, Bool, true, false, Option, Some, N
 use Rattle.std.proofs.lemmas.List.{append-nil}
 use Rattle.std.specs.Prelude.{codes}
 use Rattle.ir_lex.specs.Bytes.{has}
-use Rattle.ir_lex.specs.declared.head.Head.{Head}
-use Rattle.ir_lex.specs.declared.head.Head.TheVariants as heads
-use Rattle.ir_lex.specs.declared.token.Kind.TheVariants as kinds
-use Rattle.ir_lex.specs.Heads.{number, head_of, word_head, listed_head, words_15}
+use Rattle.ir_lex.specs.declared.token_kind.TokenKind.{TokenKind}
+use Rattle.ir_lex.specs.declared.token_kind.TokenKind.TheVariants as kinds
+use Rattle.ir_lex.specs.declared.token.TokenForm.TheVariants as forms
+use Rattle.ir_lex.specs.TokenKinds.{number, kind_of, word_kind, listed_kind, words_15}
 use Rattle.ir_lex.specs.Lexing.{is_bad}
 use Rattle.ir_lex.specs.Quotes.{is_zero_name}
 use Rattle.ir_lex.specs.Rows.{best_fit, rest_fit, label_len, number_len, word_len, name_len, meta_len, dots_len, other_len, string_len}
@@ -41,25 +41,25 @@ use Rattle.ir_globals.proofs.ConstantRules.{CONSTANT, constant_rule}
 
 -- ---- what an initialiser begins with
 
-zeros_real : IsReal (word heads.ZeroInitializer (codes "zeroinitializer"))
-unfolding best_fit rest_fit label_len number_len word_len name_len meta_len dots_len other_len string_len has is_bad is_zero_name head_of word_head listed_head words_15
+zeros_real : IsReal (word kinds.ZeroInitializer (codes "zeroinitializer"))
+unfolding best_fit rest_fit label_len number_len word_len name_len meta_len dots_len other_len string_len has is_bad is_zero_name kind_of word_kind listed_kind words_15
 zeros_real = record { behind = []; some = refl; fits = refl; good = refl; class = refl }
 
-zeros_word_rule : Rule tokens (the heads.ZeroInitializer) (the heads.ZeroInitializer) (the_at heads.ZeroInitializer) ZEROS [] false
+zeros_word_rule : Rule tokens (the kinds.ZeroInitializer) (the kinds.ZeroInitializer) (the_at kinds.ZeroInitializer) ZEROS [] false
 unfolding is_class
-zeros_word_rule = the_rule heads.ZeroInitializer (word heads.ZeroInitializer (codes "zeroinitializer")) refl zeros_real
+zeros_word_rule = the_rule kinds.ZeroInitializer (word kinds.ZeroInitializer (codes "zeroinitializer")) refl zeros_real
 
 zeros_rule : Rule tokens zeros zeros zeros_at ZEROS [] false
 unfolding zeros zeros_at
 zeros_rule = rules.seq tokens zeros_word_rule (λ _. rules.nothing tokens _) refl
 
-bytes_real : IsReal (sample kinds.CStr heads.CStr (codes "c\"\""))
-unfolding best_fit rest_fit label_len number_len word_len name_len meta_len dots_len other_len string_len has is_bad is_zero_name head_of
+bytes_real : IsReal (sample forms.CStr kinds.CStr (codes "c\"\""))
+unfolding best_fit rest_fit label_len number_len word_len name_len meta_len dots_len other_len string_len has is_bad is_zero_name kind_of
 bytes_real = record { behind = []; some = refl; fits = refl; good = refl; class = refl }
 
 bytes_rule : Rule tokens bytes bytes bytes_at BYTES [] false
 unfolding bytes bytes_at
-bytes_rule = one_rule BYTES (λ t. inits.Bytes t) (sample kinds.CStr heads.CStr (codes "c\"\"")) refl bytes_real
+bytes_rule = one_rule BYTES (λ t. inits.Bytes t) (sample forms.CStr kinds.CStr (codes "c\"\"")) refl bytes_real
 
 aggregate_begin_rule : Rule tokens aggregate_begin aggregate_begin aggregate_begin_at BRACKETS [] false
 unfolding aggregate_begin aggregate_begin_at array_begin array_begin_at structure_begin structure_begin_at packed_begin packed_begin_at
@@ -72,7 +72,7 @@ aggregate_begin_rule =
 
 -- what an initialiser begins with
 abbrev pub INITIALISER : List ℕ
-INITIALISER = number heads.ZeroInitializer ∷ number heads.CStr ∷ BRACKETS ++ CONSTANT
+INITIALISER = number kinds.ZeroInitializer ∷ number kinds.CStr ∷ BRACKETS ++ CONSTANT
 
 pub beginning_rule : (scalar : Option Reg) → Rule tokens (beginning memory_shape scalar) (beginning any_shape scalar) (beginning_at scalar) INITIALISER [] false
 unfolding beginning beginning_at
@@ -88,22 +88,22 @@ closing_not_limit : (none : Bool) (n : ℕ) → closing_refusal none n ≡ Limit
 closing_not_limit true n e = memory_not_limit n e
 closing_not_limit false n e = not_limit n e
 
-mark_rule : (none : Bool) (wanted : Head) (t : Tok) → is_class tokens (closing_refusal none) (number wanted) t ≡ Ok tt → IsReal t → Rule tokens (mark none wanted) (mark none wanted) (mark_at none wanted) (number wanted ∷ []) [] false
+mark_rule : (none : Bool) (wanted : TokenKind) (t : Tok) → is_class tokens (closing_refusal none) (number wanted) t ≡ Ok tt → IsReal t → Rule tokens (mark none wanted) (mark none wanted) (mark_at none wanted) (number wanted ∷ []) [] false
 mark_rule none wanted t e real = rules.class_rule tokens (closing_refusal none) (closing_not_number none) (closing_not_limit none) (number wanted) t e real
 
-bracket_rule : (none : Bool) → Rule tokens (mark none heads.CloseBracket) (mark none heads.CloseBracket) (mark_at none heads.CloseBracket) (number heads.CloseBracket ∷ []) [] false
+bracket_rule : (none : Bool) → Rule tokens (mark none kinds.CloseBracket) (mark none kinds.CloseBracket) (mark_at none kinds.CloseBracket) (number kinds.CloseBracket ∷ []) [] false
 unfolding is_class
-bracket_rule none = mark_rule none heads.CloseBracket (singles.mark heads.CloseBracket (codes "]")) refl close_bracket_real
+bracket_rule none = mark_rule none kinds.CloseBracket (singles.mark kinds.CloseBracket (codes "]")) refl close_bracket_real
 
-brace_mark_rule : (none : Bool) → Rule tokens (mark none heads.CloseBrace) (mark none heads.CloseBrace) (mark_at none heads.CloseBrace) (number heads.CloseBrace ∷ []) [] false
+brace_mark_rule : (none : Bool) → Rule tokens (mark none kinds.CloseBrace) (mark none kinds.CloseBrace) (mark_at none kinds.CloseBrace) (number kinds.CloseBrace ∷ []) [] false
 unfolding is_class
-brace_mark_rule none = mark_rule none heads.CloseBrace (singles.mark heads.CloseBrace (codes "}")) refl close_brace_real
+brace_mark_rule none = mark_rule none kinds.CloseBrace (singles.mark kinds.CloseBrace (codes "}")) refl close_brace_real
 
-angle_rule : (packed : Bool) → Rule tokens (angle packed) (angle packed) (angle_at packed) (number heads.CloseAngle ∷ []) [] true
+angle_rule : (packed : Bool) → Rule tokens (angle packed) (angle packed) (angle_at packed) (number kinds.CloseAngle ∷ []) [] true
 angle_rule true = rules.wider tokens _ [] close_angle_rule refl refl
 angle_rule false = rules.wider tokens _ [] (rules.nothing tokens tt) refl refl
 
-brace_rule : (none packed : Bool) → Rule tokens (brace none packed) (brace none packed) (brace_at none packed) (number heads.CloseBrace ∷ []) [] false
+brace_rule : (none packed : Bool) → Rule tokens (brace none packed) (brace none packed) (brace_at none packed) (number kinds.CloseBrace ∷ []) [] false
 unfolding brace brace_at
 brace_rule none packed = rules.seq tokens (brace_mark_rule none) (λ _. angle_rule packed) refl
 
@@ -147,8 +147,8 @@ FURTHER = SHAPE ++ COMMA
 
 -- the parts of the whole go on with a first part, or with a comma
 further_there : (first : Bool) (open_ones : List Aggregate) (t : Tok) → outermost (first, open_ones) ≡ true → begins_there (first, open_ones) t ≡ true → among tokens FURTHER t ≡ true
-further_there true [] t d p = within_of SHAPE FURTHER refl (number t.head) p
-further_there false [] t d p = within_of COMMA FURTHER refl (number t.head) p
+further_there true [] t d p = within_of SHAPE FURTHER refl (number t.kind) p
+further_there false [] t d p = within_of COMMA FURTHER refl (number t.kind) p
 further_there first (inner ∷ outer) t d p = absurd cc
 
 -- the aggregates that are open can be closed
@@ -169,15 +169,15 @@ finished first (inner ∷ outer) =
 listed_rule : Rule tokens (listed memory_shape) (listed any_shape) listed_at SHAPE FURTHER true
 listed_rule = record {
   law = chain_lawful tokens outermost begins_there begins_there (λ _. among tokens []) (among tokens FURTHER) (λ s. piece memory_shape s.0 s.1) (λ s. piece any_shape s.0 s.1) there_at (λ s. (piece_rule s.0 s.1).law) (λ s t u n m. ap (contains (BEGINNINGS s.0 s.1)) (sym m)) (λ s t d e. e)
-      (λ s next front a g t p q. apart_from [] (BEGINNINGS next.0 next.1) refl (number t.head) p q)
-      (λ s t p. within_of [] FURTHER refl (number t.head) p)
+      (λ s next front a g t p q. apart_from [] (BEGINNINGS next.0 next.1) refl (number t.kind) p q)
+      (λ s t p. within_of [] FURTHER refl (number t.kind) p)
       (λ s t d p. further_there s.0 s.1 t d p)
       (λ s. finished s.0 s.1) (true, []);
 }
 
 -- what may begin behind the beginning of an aggregate
 abbrev pub INSIDE : List ℕ
-INSIDE = number heads.CloseBracket ∷ number heads.CloseBrace ∷ SHAPE
+INSIDE = number kinds.CloseBracket ∷ number kinds.CloseBrace ∷ SHAPE
 
 parts_rule : (whole : Aggregate) → Rule tokens (parts memory_shape whole) (parts any_shape whole) (parts_at whole) INSIDE [] false
 unfolding parts parts_at

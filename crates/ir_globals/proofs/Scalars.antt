@@ -1,7 +1,7 @@
 -- A scalar that memory holds has the type of a register.
 use Rattle.std.proofs.Common.{◌≡◌, ℕ, zero, suc, ◌<◌, ◌≤◌, Bool, true, false, cond, ◌&&◌, Option, Some, None, option_map, max, min, List, [], ◌∷◌, Result, Ok, Err, sym, subst, inl, inr, arith}
 use Rattle.std.specs.Prelude.{IfSome}
-use Rattle.ir_lex.specs.Heads.{number}
+use Rattle.ir_lex.specs.TokenKinds.{number}
 use Rattle.ir_lex.specs.Tok.{Tok}
 use Rattle.ir_read.specs.Alphabet.{among}
 use Rattle.ir_read.specs.declared.fault.TokenFault.{TokenFault}
@@ -50,7 +50,7 @@ leaf_means : (room : Room) (t : Tok) (x : Typed) → is_leaf room t ≡ Ok x →
 unfolding is_leaf is_valued
 leaf_means room t x e = by_scalar (among tokens SCALAR t) (has_room room t) (among tokens LOCAL t) (operands.named t) e
   where
-    by_scalar : (b c d : Bool) (o : Option Tok) → cond (b && c) (Ok (scalar_typed t)) (cond d (in_range (option_map (λ (name : Tok). typed (named name) t.line) o)) (Err (memory_refusal (number t.head)))) ≡ Ok x → Registered x
+    by_scalar : (b c d : Bool) (o : Option Tok) → cond (b && c) (Ok (scalar_typed t)) (cond d (in_range (option_map (λ (name : Tok). typed (named name) t.line) o)) (Err (memory_refusal (number t.kind)))) ≡ Ok x → Registered x
     by_scalar true true d o h = subst (λ (y : Typed). Registered y) (ok_is (scalar_typed t) x h) (scalar_is t)
     by_scalar true false true (Some name) h = subst (λ (y : Typed). Registered y) (ok_is (typed (named name) t.line) x h) tt
     by_scalar true false true None h = absurd cc

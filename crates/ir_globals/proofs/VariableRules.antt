@@ -2,9 +2,9 @@
 use Rattle.std.proofs.Common.{◌≡◌, ℕ, Bool, true, false, cond, Option, None, Some, List, [], ◌∷◌, ◌++◌, Result, Ok, Err, refl, ap, ◌∙◌, sym}
 use Rattle.std.specs.Prelude.{codes}
 use Rattle.ir_lex.specs.Bytes.{has}
-use Rattle.ir_lex.specs.declared.head.Head.TheVariants as heads
-use Rattle.ir_lex.specs.declared.token.Kind.TheVariants as kinds
-use Rattle.ir_lex.specs.Heads.{number, head_of, word_head, listed_head, words_6}
+use Rattle.ir_lex.specs.declared.token_kind.TokenKind.TheVariants as kinds
+use Rattle.ir_lex.specs.declared.token.TokenForm.TheVariants as forms
+use Rattle.ir_lex.specs.TokenKinds.{number, kind_of, word_kind, listed_kind, words_6}
 use Rattle.ir_lex.specs.Lexing.{is_bad}
 use Rattle.ir_lex.specs.Quotes.{is_zero_name}
 use Rattle.ir_lex.specs.Rows.{best_fit, rest_fit, label_len, number_len, word_len, name_len, meta_len, dots_len, other_len, string_len}
@@ -48,21 +48,21 @@ any_name (t ∷ []) a s = by_test (among tokens NAMES t) s
   where
     by_name : (o : Option Tok) → global_named t ≡ o → in_range o ≡ good a → good t ≡ good a
     by_name None q e = absurd cc
-    by_name (Some u) q e = ap good (global_is t.head t u q) ∙ e
+    by_name (Some u) q e = ap good (global_is t.kind t u q) ∙ e
 
-    by_test : (b : Bool) → cond b (in_range (global_named t)) (Err (name_refusal (number t.head))) ≡ good a → cond b (good t) (Err (name_refusal (number t.head))) ≡ good a
+    by_test : (b : Bool) → cond b (in_range (global_named t)) (Err (name_refusal (number t.kind))) ≡ good a → cond b (good t) (Err (name_refusal (number t.kind))) ≡ good a
     by_test true e = by_name (global_named t) refl e
     by_test false e = absurd cc
 any_name (t ∷ u ∷ ts) a s = absurd s
 
 variable_name_rule : Rule tokens variable_name any_variable_name variable_name_at NAMES [] false
-variable_name_rule = record { law = with_wide tokens (named_rule NAMES refl).law any_name (rules.any_broad tokens name_refusal NAMES global_named itself (λ t u q. sym (global_is t.head t u q)) refl) }
+variable_name_rule = record { law = with_wide tokens (named_rule NAMES refl).law any_name (rules.any_broad tokens name_refusal NAMES global_named itself (λ t u q. sym (global_is t.kind t u q)) refl) }
 
 linkage_word_rule : Rule tokens (one_of LINKAGES linkage_word) (one_of LINKAGES linkage_word) (one_of_at LINKAGES linkage_word) LINKAGES [] false
-linkage_word_rule = one_rule LINKAGES linkage_word (word heads.External (codes "external")) refl external_real
+linkage_word_rule = one_rule LINKAGES linkage_word (word kinds.External (codes "external")) refl external_real
 
 pub qualifier_word_rule : Rule tokens (one_of QUALIFIERS nothing_of) (one_of QUALIFIERS nothing_of) (one_of_at QUALIFIERS nothing_of) QUALIFIERS [] false
-qualifier_word_rule = one_rule QUALIFIERS nothing_of (word heads.Visibility (codes "hidden")) refl hidden_real
+qualifier_word_rule = one_rule QUALIFIERS nothing_of (word kinds.Visibility (codes "hidden")) refl hidden_real
 
 qualifiers_rule : Rule tokens qualifiers qualifiers qualifiers_at QUALIFIERS QUALIFIERS true
 unfolding qualifiers qualifiers_at
@@ -76,12 +76,12 @@ linked_rule : Rule tokens linked linked linked_at LINKED LINKED true
 unfolding linked linked_at
 linked_rule = rules.wider tokens LINKED LINKED (rules.seq tokens (rules.maybe tokens LINKAGES linkage_word_rule refl) (λ l. rules.seq tokens qualifiers_rule (λ _. rules.nothing tokens l) refl) refl) refl refl
 
-pub constant_real : IsReal (word heads.GlobalVariable (codes "global"))
-unfolding best_fit rest_fit label_len number_len word_len name_len meta_len dots_len other_len string_len has is_bad is_zero_name head_of word_head listed_head words_6
+pub constant_real : IsReal (word kinds.GlobalVariable (codes "global"))
+unfolding best_fit rest_fit label_len number_len word_len name_len meta_len dots_len other_len string_len has is_bad is_zero_name kind_of word_kind listed_kind words_6
 constant_real = record { behind = []; some = refl; fits = refl; good = refl; class = refl }
 
 kind_rule : Rule tokens (one_of KINDS is_constant) (one_of KINDS is_constant) (one_of_at KINDS is_constant) KINDS [] false
-kind_rule = one_rule KINDS is_constant (word heads.GlobalVariable (codes "global")) refl constant_real
+kind_rule = one_rule KINDS is_constant (word kinds.GlobalVariable (codes "global")) refl constant_real
 
 -- ---- behind the shape
 
@@ -89,21 +89,21 @@ value_rule : (declared : Bool) (scalar : Option Reg) → Rule tokens (value memo
 value_rule true scalar = rules.wider tokens INITIALISER [] (rules.nothing tokens None) refl refl
 value_rule false scalar = rules.wider tokens INITIALISER [] (rules.seq tokens (initialiser_rule scalar) (λ _. rules.nothing tokens _) refl) refl refl
 
-pub comdat_real : IsReal (word heads.Comdat (codes "comdat"))
-unfolding best_fit rest_fit label_len number_len word_len name_len meta_len dots_len other_len string_len has is_bad is_zero_name head_of word_head listed_head words_6
+pub comdat_real : IsReal (word kinds.Comdat (codes "comdat"))
+unfolding best_fit rest_fit label_len number_len word_len name_len meta_len dots_len other_len string_len has is_bad is_zero_name kind_of word_kind listed_kind words_6
 comdat_real = record { behind = []; some = refl; fits = refl; good = refl; class = refl }
 
-comdat_rule : Rule tokens (the heads.Comdat) (the heads.Comdat) (the_at heads.Comdat) COMDAT [] false
+comdat_rule : Rule tokens (the kinds.Comdat) (the kinds.Comdat) (the_at kinds.Comdat) COMDAT [] false
 unfolding is_class
-comdat_rule = the_rule heads.Comdat (word heads.Comdat (codes "comdat")) refl comdat_real
+comdat_rule = the_rule kinds.Comdat (word kinds.Comdat (codes "comdat")) refl comdat_real
 
-pub named_comdat_real : IsReal (sample kinds.Comdat heads.ComdatName (codes "$a"))
-unfolding best_fit rest_fit label_len number_len word_len name_len meta_len dots_len other_len string_len has is_bad is_zero_name head_of
+pub named_comdat_real : IsReal (sample forms.Comdat kinds.ComdatName (codes "$a"))
+unfolding best_fit rest_fit label_len number_len word_len name_len meta_len dots_len other_len string_len has is_bad is_zero_name kind_of
 named_comdat_real = record { behind = []; some = refl; fits = refl; good = refl; class = refl }
 
-named_comdat_rule : Rule tokens (the heads.ComdatName) (the heads.ComdatName) (the_at heads.ComdatName) (number heads.ComdatName ∷ []) [] false
+named_comdat_rule : Rule tokens (the kinds.ComdatName) (the kinds.ComdatName) (the_at kinds.ComdatName) (number kinds.ComdatName ∷ []) [] false
 unfolding is_class
-named_comdat_rule = the_rule heads.ComdatName (sample kinds.Comdat heads.ComdatName (codes "$a")) refl named_comdat_real
+named_comdat_rule = the_rule kinds.ComdatName (sample forms.Comdat kinds.ComdatName (codes "$a")) refl named_comdat_real
 
 comdat_name_rule : Rule tokens comdat_name comdat_name comdat_name_at PAREN [] false
 unfolding comdat_name comdat_name_at
@@ -117,13 +117,13 @@ aligned_rule : Rule tokens aligned aligned aligned_at ALIGN [] false
 unfolding aligned aligned_at
 aligned_rule = rules.seq tokens align_rule (λ _. rules.seq tokens alignment_rule (λ _. rules.nothing tokens _) refl) refl
 
-marked_rule : Rule tokens marked marked marked_at (number heads.Meta ∷ number heads.Bang ∷ []) PAREN false
+marked_rule : Rule tokens marked marked marked_at (number kinds.Meta ∷ number kinds.Bang ∷ []) PAREN false
 unfolding marked marked_at
 marked_rule = rules.seq tokens attached_rule (λ _. rules.nothing tokens _) refl
 
 -- what stands behind a comma
 abbrev FURTHER : List ℕ
-FURTHER = number heads.Comdat ∷ number heads.Align ∷ number heads.Meta ∷ number heads.Bang ∷ []
+FURTHER = number kinds.Comdat ∷ number kinds.Align ∷ number kinds.Meta ∷ number kinds.Bang ∷ []
 
 further_choice_rule : Rule tokens (form.either in_comdat (form.either aligned marked)) (form.either in_comdat (form.either aligned marked)) (reader.pick (among tokens COMDAT) in_comdat_at (reader.pick (among tokens ALIGN) aligned_at marked_at)) FURTHER PAREN false
 further_choice_rule = rules.broader tokens FURTHER PAREN (rules.alt tokens COMDAT in_comdat_rule (rules.alt tokens ALIGN aligned_rule marked_rule refl refl) refl refl) refl refl
@@ -134,11 +134,11 @@ further_rule = rules.seq tokens comma_rule (λ _. further_choice_rule) refl
 
 further_opens : Opens tokens COMMA further
 unfolding further
-further_opens = rules.opens_seq tokens COMMA (the heads.Comma) (the_opens heads.Comma) (λ _. further_choice_rule)
+further_opens = rules.opens_seq tokens COMMA (the kinds.Comma) (the_opens kinds.Comma) (λ _. further_choice_rule)
 
 -- what may go on behind a variable
 abbrev pub AFTER : List ℕ
-AFTER = number heads.OpenParen ∷ number heads.Comma ∷ []
+AFTER = number kinds.OpenParen ∷ number kinds.Comma ∷ []
 
 tail_rule : Rule tokens tail tail tail_at COMMA AFTER true
 unfolding tail tail_at

@@ -1,8 +1,8 @@
 -- Constants that a variable, or a part of one, begins with (LangRef, "Constants"), over what spells a shape.
 use Rattle.std.specs.Prelude.{ℕ, Option, Some, None, option_map, List, [], ◌∷◌}
-use Rattle.ir_lex.specs.declared.head.Head.{Head}
-use Rattle.ir_lex.specs.declared.head.Head.TheVariants as heads
-use Rattle.ir_lex.specs.Heads.{number}
+use Rattle.ir_lex.specs.declared.token_kind.TokenKind.{TokenKind}
+use Rattle.ir_lex.specs.declared.token_kind.TokenKind.TheVariants as kinds
+use Rattle.ir_lex.specs.TokenKinds.{number}
 use Rattle.ir_lex.specs.Tok.{Tok}
 use Rattle.ir_tree.specs.declared.operand.Reg.{Reg}
 use Rattle.ir_tree.specs.declared.operand.Reg.TheVariants.{Int, Ptr}
@@ -19,7 +19,7 @@ use Rattle.ir_read.specs.Operands.{named}
 use Rattle.ir_operands.specs.Values.{address}
 
 abbrev pub CONSTANTS : List ℕ
-CONSTANTS = number heads.Number ∷ number heads.True ∷ number heads.False ∷ number heads.Null ∷ number heads.Poison ∷ number heads.Global ∷ number heads.NumberedGlobal ∷ number heads.NumberedDefinition ∷ []
+CONSTANTS = number kinds.Number ∷ number kinds.True ∷ number kinds.False ∷ number kinds.Null ∷ number kinds.Poison ∷ number kinds.Global ∷ number kinds.NumberedGlobal ∷ number kinds.NumberedDefinition ∷ []
 
 -- the type of a constant: where no scalar begins with it, i1, which no shape in memory has
 abbrev pub type_of : Option Reg → Reg
@@ -37,19 +37,19 @@ number_of (Some Ptr) t = Some (plain (operands.Number 1 0))
 number_of None t = Some (inits.Number t)
 
 -- what a token of such a class means, by its class
-abbrev pub constant_by : Head → Option Reg → Tok → Option InitHead
-constant_by heads.Number scalar t = number_of scalar t
-constant_by heads.True scalar t = Some (plain (operands.Number 1 1))
-constant_by heads.False scalar t = Some (plain (operands.Number 1 0))
-constant_by heads.Null scalar t = Some (plain operands.Null)
-constant_by heads.Poison scalar t = Some (plain (operands.Poison (type_of scalar)))
-constant_by heads.Global scalar t = Some (plain (operands.Global t))
-constant_by heads.NumberedGlobal scalar t = option_map (λ name. plain (operands.Global name)) (named t)
-constant_by heads.NumberedDefinition scalar t = option_map (λ name. plain (operands.Global name)) (named t)
+abbrev pub constant_by : TokenKind → Option Reg → Tok → Option InitHead
+constant_by kinds.Number scalar t = number_of scalar t
+constant_by kinds.True scalar t = Some (plain (operands.Number 1 1))
+constant_by kinds.False scalar t = Some (plain (operands.Number 1 0))
+constant_by kinds.Null scalar t = Some (plain operands.Null)
+constant_by kinds.Poison scalar t = Some (plain (operands.Poison (type_of scalar)))
+constant_by kinds.Global scalar t = Some (plain (operands.Global t))
+constant_by kinds.NumberedGlobal scalar t = option_map (λ name. plain (operands.Global name)) (named t)
+constant_by kinds.NumberedDefinition scalar t = option_map (λ name. plain (operands.Global name)) (named t)
 constant_by h scalar t = None
 
 abbrev pub constant_of : Option Reg → Tok → Option InitHead
-constant_of scalar t = constant_by t.head scalar t
+constant_of scalar t = constant_by t.kind scalar t
 
 -- Number / true / false / null / poison / Global
 abbrev pub single : Option Reg → Form Tok InitHead

@@ -1,9 +1,9 @@
 -- Initialisers of variables (LangRef, "Global Variables", "Complex Constants"). They nest as deep as their text does, so
 -- the parts of an aggregate are pieces one behind another, and which aggregates are open is a list.
 use Rattle.std.specs.Prelude.{ℕ, Bool, true, false, Option, Some, None, List, [], ◌∷◌, ◌++◌}
-use Rattle.ir_lex.specs.declared.head.Head.{Head}
-use Rattle.ir_lex.specs.declared.head.Head.TheVariants as heads
-use Rattle.ir_lex.specs.Heads.{number}
+use Rattle.ir_lex.specs.declared.token_kind.TokenKind.{TokenKind}
+use Rattle.ir_lex.specs.declared.token_kind.TokenKind.TheVariants as kinds
+use Rattle.ir_lex.specs.TokenKinds.{number}
 use Rattle.ir_lex.specs.Tok.{Tok}
 use Rattle.ir_tree.specs.declared.operand.Reg.{Reg}
 use Rattle.ir_tree.specs.declared.operand.Reg.TheVariants.{Int, Ptr}
@@ -37,12 +37,12 @@ scalar_of (named name) = None
 -- ---- what an initialiser begins with
 
 abbrev pub BYTES : List ℕ
-BYTES = number heads.CStr ∷ []
+BYTES = number kinds.CStr ∷ []
 
 -- zeroinitializer
 unfoldable pub zeros : Form Tok InitHead
 zeros = do
-  _ ← the heads.ZeroInitializer
+  _ ← the kinds.ZeroInitializer
   gives inits.Zeros
 
 -- c".."
@@ -52,19 +52,19 @@ bytes = one_of BYTES (λ t. inits.Bytes t)
 -- [
 unfoldable pub array_begin : Form Tok InitHead
 array_begin = do
-  _ ← the heads.OpenBracket
+  _ ← the kinds.OpenBracket
   gives inits.Array
 
 -- {
 unfoldable pub structure_begin : Form Tok InitHead
 structure_begin = do
-  _ ← the heads.OpenBrace
+  _ ← the kinds.OpenBrace
   gives (inits.Struct false)
 
 -- < {
 unfoldable pub packed_begin : Form Tok InitHead
 packed_begin = do
-  _ ← the heads.OpenAngle
+  _ ← the kinds.OpenAngle
   _ ← brace_behind_angle
   gives (inits.Struct true)
 
@@ -95,22 +95,22 @@ abbrev pub closing_refusal : Bool → ℕ → TokenFault
 closing_refusal true class = memory_refusal class
 closing_refusal false class = refusal class
 
-abbrev pub mark : Bool → Head → Form Tok (Unit {0})
+abbrev pub mark : Bool → TokenKind → Form Tok (Unit {0})
 mark none wanted = token (is_class tokens (closing_refusal none) (number wanted))
 
 abbrev pub angle : Bool → Form Tok (Unit {0})
-angle true = the heads.CloseAngle
+angle true = the kinds.CloseAngle
 angle false = gives tt
 
 -- } / } >
 unfoldable pub brace : Bool → Bool → Form Tok (Unit {0})
 brace none packed = do
-  _ ← mark none heads.CloseBrace
+  _ ← mark none kinds.CloseBrace
   angle packed
 
 -- ] / } / } >
 abbrev pub closing : Bool → Aggregate → Form Tok (Unit {0})
-closing none aggregates.Array = mark none heads.CloseBracket
+closing none aggregates.Array = mark none kinds.CloseBracket
 closing none (aggregates.Struct packed) = brace none packed
 
 -- ---- parts
@@ -129,7 +129,7 @@ entered (Some a) open_ones = (true, a ∷ open_ones)
 abbrev pub part_shape : Form Tok Typed → Bool → Form Tok Typed
 part_shape shape true = shape
 part_shape shape false = do
-  _ ← the heads.Comma
+  _ ← the kinds.Comma
   shape
 
 -- [,] shape init, up to the parts of the init

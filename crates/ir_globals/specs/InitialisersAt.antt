@@ -1,8 +1,8 @@
 -- What the readers of initialisers give.
 use Rattle.std.specs.Prelude.{ℕ, Bool, true, false, Option, Some, None, List, [], ◌∷◌, ◌++◌}
-use Rattle.ir_lex.specs.declared.head.Head.{Head}
-use Rattle.ir_lex.specs.declared.head.Head.TheVariants as heads
-use Rattle.ir_lex.specs.Heads.{number}
+use Rattle.ir_lex.specs.declared.token_kind.TokenKind.{TokenKind}
+use Rattle.ir_lex.specs.declared.token_kind.TokenKind.TheVariants as kinds
+use Rattle.ir_lex.specs.TokenKinds.{number}
 use Rattle.ir_lex.specs.Tok.{Tok}
 use Rattle.ir_tree.specs.declared.operand.Reg.{Reg}
 use Rattle.ir_read.specs.Alphabet.{among}
@@ -27,11 +27,11 @@ use Rattle.ir_globals.specs.declared.initialisers.Aggregate.{Aggregate}
 use Rattle.ir_globals.specs.declared.initialisers.Aggregate.TheVariants as aggregates
 
 abbrev pub ZEROS : List ℕ
-ZEROS = number heads.ZeroInitializer ∷ []
+ZEROS = number kinds.ZeroInitializer ∷ []
 
 unfoldable pub zeros_at : Reader Tok InitHead
 zeros_at = do
-  _ ← the_at heads.ZeroInitializer
+  _ ← the_at kinds.ZeroInitializer
   done inits.Zeros
 
 unfoldable pub bytes_at : Reader Tok InitHead
@@ -39,17 +39,17 @@ bytes_at = one_of_at BYTES (λ t. inits.Bytes t)
 
 unfoldable pub array_begin_at : Reader Tok InitHead
 array_begin_at = do
-  _ ← the_at heads.OpenBracket
+  _ ← the_at kinds.OpenBracket
   done inits.Array
 
 unfoldable pub structure_begin_at : Reader Tok InitHead
 structure_begin_at = do
-  _ ← the_at heads.OpenBrace
+  _ ← the_at kinds.OpenBrace
   done (inits.Struct false)
 
 unfoldable pub packed_begin_at : Reader Tok InitHead
 packed_begin_at = do
-  _ ← the_at heads.OpenAngle
+  _ ← the_at kinds.OpenAngle
   _ ← brace_behind_angle_at
   done (inits.Struct true)
 
@@ -59,26 +59,26 @@ aggregate_begin_at = pick (among tokens OPEN_BRACKET) array_begin_at (pick (amon
 unfoldable pub beginning_at : Option Reg → Reader Tok InitHead
 beginning_at scalar = pick (among tokens ZEROS) zeros_at (pick (among tokens BYTES) bytes_at (pick (among tokens BRACKETS) aggregate_begin_at (constant_at scalar)))
 
-abbrev pub mark_at : Bool → Head → Reader Tok (Unit {0})
+abbrev pub mark_at : Bool → TokenKind → Reader Tok (Unit {0})
 mark_at none wanted = token_at (is_class tokens (closing_refusal none) (number wanted))
 
 abbrev pub angle_at : Bool → Reader Tok (Unit {0})
-angle_at true = the_at heads.CloseAngle
+angle_at true = the_at kinds.CloseAngle
 angle_at false = done tt
 
 unfoldable pub brace_at : Bool → Bool → Reader Tok (Unit {0})
 brace_at none packed = do
-  _ ← mark_at none heads.CloseBrace
+  _ ← mark_at none kinds.CloseBrace
   angle_at packed
 
 abbrev pub closing_at : Bool → Aggregate → Reader Tok (Unit {0})
-closing_at none aggregates.Array = mark_at none heads.CloseBracket
+closing_at none aggregates.Array = mark_at none kinds.CloseBracket
 closing_at none (aggregates.Struct packed) = brace_at none packed
 
 abbrev pub part_shape_at : Bool → Reader Tok Typed
 part_shape_at true = memory_shape_at
 part_shape_at false = do
-  _ ← the_at heads.Comma
+  _ ← the_at kinds.Comma
   memory_shape_at
 
 unfoldable pub part_at : Bool → Reader Tok (Typed × InitHead)
@@ -99,8 +99,8 @@ closed_at inner outer = do
 
 -- what closes an aggregate begins with
 abbrev pub CLOSER : Aggregate → List ℕ
-CLOSER aggregates.Array = number heads.CloseBracket ∷ []
-CLOSER (aggregates.Struct packed) = number heads.CloseBrace ∷ []
+CLOSER aggregates.Array = number kinds.CloseBracket ∷ []
+CLOSER (aggregates.Struct packed) = number kinds.CloseBrace ∷ []
 
 abbrev pub piece_at : Bool → List Aggregate → Reader Tok (InitPart × Spot)
 piece_at first [] = begun_at first []

@@ -1,6 +1,6 @@
 -- Type definitions (LangRef, "Structure Type", "Opaque Structure Types"), over what spells a shape.
 use Rattle.std.specs.Prelude.{Option, Some, None}
-use Rattle.ir_lex.specs.declared.head.Head.TheVariants as heads
+use Rattle.ir_lex.specs.declared.token_kind.TokenKind.TheVariants as kinds
 use Rattle.ir_lex.specs.Tok.{Tok}
 use Rattle.ir_read.specs.Forms.{Form, ◌>>=◌, either, gives}
 use Rattle.ir_read.specs.Classes.{the}
@@ -13,7 +13,7 @@ use Rattle.ir_read.specs.Operands.{local}
 unfoldable pub defined : Form Tok Typed → Form Tok (Option Typed)
 defined shape = either
     (do
-      _ ← the heads.Opaque
+      _ ← the kinds.Opaque
       gives None)
     (do
       typed ← shape
@@ -23,7 +23,7 @@ defined shape = either
 unfoldable pub type_line : Form Tok Typed → Form Tok Item
 type_line shape = do
   name ← local
-  _ ← the heads.Equals
-  _ ← the heads.Type
+  _ ← the kinds.Equals
+  _ ← the kinds.Type
   typed ← defined shape
   gives (items.Type name typed)

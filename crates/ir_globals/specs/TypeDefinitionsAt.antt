@@ -1,7 +1,7 @@
 -- What the readers of type definitions give.
 use Rattle.std.specs.Prelude.{ℕ, Option, Some, None, List, [], ◌∷◌}
-use Rattle.ir_lex.specs.declared.head.Head.TheVariants as heads
-use Rattle.ir_lex.specs.Heads.{number}
+use Rattle.ir_lex.specs.declared.token_kind.TokenKind.TheVariants as kinds
+use Rattle.ir_lex.specs.TokenKinds.{number}
 use Rattle.ir_lex.specs.Tok.{Tok}
 use Rattle.ir_read.specs.Alphabet.{among}
 use Rattle.ir_read.specs.Readers.{Reader, ◌>>=◌, done, pick}
@@ -13,12 +13,12 @@ use Rattle.ir_read.specs.OperandsAt.{local_at}
 use Rattle.ir_operands.specs.ShapeFormsAt.{memory_shape_at}
 
 abbrev pub OPAQUE : List ℕ
-OPAQUE = number heads.Opaque ∷ []
+OPAQUE = number kinds.Opaque ∷ []
 
 unfoldable pub defined_at : Reader Tok (Option Typed)
 defined_at = pick (among tokens OPAQUE)
     (do
-      _ ← the_at heads.Opaque
+      _ ← the_at kinds.Opaque
       done None)
     (do
       typed ← memory_shape_at
@@ -28,14 +28,14 @@ defined_at = pick (among tokens OPAQUE)
 abbrev pub type_name_at : Reader Tok Tok
 type_name_at = do
   name ← local_at
-  _ ← the_at heads.Equals
-  _ ← the_at heads.Type
+  _ ← the_at kinds.Equals
+  _ ← the_at kinds.Type
   done name
 
 unfoldable pub type_line_at : Reader Tok Item
 type_line_at = do
   name ← local_at
-  _ ← the_at heads.Equals
-  _ ← the_at heads.Type
+  _ ← the_at kinds.Equals
+  _ ← the_at kinds.Type
   typed ← defined_at
   done (items.Type name typed)

@@ -1,8 +1,8 @@
 -- Global variables (LangRef, "Global Variables", "Linkage Types", "Comdats"), over what spells a shape.
 use Rattle.std.specs.Prelude.{ℕ, Bool, true, false, nat_eq, Option, Some, None, List, [], ◌∷◌}
 use Rattle.std.specs.List.{fold}
-use Rattle.ir_lex.specs.declared.head.Head.TheVariants as heads
-use Rattle.ir_lex.specs.Heads.{number}
+use Rattle.ir_lex.specs.declared.token_kind.TokenKind.TheVariants as kinds
+use Rattle.ir_lex.specs.TokenKinds.{number}
 use Rattle.ir_lex.specs.Tok.{Tok}
 use Rattle.ir_tree.specs.declared.function.Linkage.{Linkage}
 use Rattle.ir_tree.specs.declared.function.Linkage.TheVariants as linkages
@@ -24,7 +24,7 @@ use Rattle.ir_globals.specs.Initialisers.{scalar_of, initialiser}
 
 -- a name that is a number has `= private` or `= internal` behind it
 abbrev pub NAMES : List ℕ
-NAMES = number heads.Global ∷ number heads.NumberedDefinition ∷ []
+NAMES = number kinds.Global ∷ number kinds.NumberedDefinition ∷ []
 
 abbrev pub variable_name : Form Tok Tok
 variable_name = token (is_valued tokens name_refusal NAMES global_named)
@@ -47,10 +47,10 @@ linked = do
   gives l
 
 abbrev pub KINDS : List ℕ
-KINDS = number heads.GlobalVariable ∷ number heads.Constant ∷ []
+KINDS = number kinds.GlobalVariable ∷ number kinds.Constant ∷ []
 
 abbrev pub is_constant : Tok → Bool
-is_constant t = nat_eq (number t.head) (number heads.Constant)
+is_constant t = nat_eq (number t.kind) (number kinds.Constant)
 
 -- ---- behind the shape
 
@@ -69,21 +69,21 @@ value shape false scalar = do
 -- ( Comdat )
 unfoldable pub comdat_name : Form Tok (Unit {0})
 comdat_name = do
-  _ ← the heads.OpenParen
-  _ ← the heads.ComdatName
-  the heads.CloseParen
+  _ ← the kinds.OpenParen
+  _ ← the kinds.ComdatName
+  the kinds.CloseParen
 
 -- comdat [(Comdat)]
 unfoldable pub in_comdat : Form Tok (Option ℕ)
 in_comdat = do
-  _ ← the heads.Comdat
+  _ ← the kinds.Comdat
   _ ← optional comdat_name
   gives None
 
 -- align N
 unfoldable pub aligned : Form Tok (Option ℕ)
 aligned = do
-  _ ← the heads.Align
+  _ ← the kinds.Align
   n ← token is_alignment
   gives (Some n)
 
@@ -96,7 +96,7 @@ marked = do
 -- , comdat [(Comdat)] / , align N / , Meta node: the alignment, where it is one
 unfoldable pub further : Form Tok (Option ℕ)
 further = do
-  _ ← the heads.Comma
+  _ ← the kinds.Comma
   either in_comdat (either aligned marked)
 
 -- the last alignment stands
@@ -128,7 +128,7 @@ behind_kind shape name l constant = do
 unfoldable pub variable_line : Form Tok Tok → Form Tok Typed → Form Tok Item
 variable_line variable_named shape = do
   name ← variable_named
-  _ ← the heads.Equals
+  _ ← the kinds.Equals
   l ← linked
   constant ← one_of KINDS is_constant
   behind_kind shape name l constant

@@ -1,8 +1,8 @@
 -- What the readers of variables give.
 use Rattle.std.specs.Prelude.{ℕ, Bool, true, false, Option, Some, None, List, [], ◌∷◌}
 use Rattle.std.specs.List.{fold}
-use Rattle.ir_lex.specs.declared.head.Head.TheVariants as heads
-use Rattle.ir_lex.specs.Heads.{number}
+use Rattle.ir_lex.specs.declared.token_kind.TokenKind.TheVariants as kinds
+use Rattle.ir_lex.specs.TokenKinds.{number}
 use Rattle.ir_lex.specs.Tok.{Tok}
 use Rattle.ir_tree.specs.declared.function.Linkage.{Linkage}
 use Rattle.ir_tree.specs.declared.operand.Reg.{Reg}
@@ -47,19 +47,19 @@ value_at false scalar = do
 
 unfoldable pub comdat_name_at : Reader Tok (Unit {0})
 comdat_name_at = do
-  _ ← the_at heads.OpenParen
-  _ ← the_at heads.ComdatName
-  the_at heads.CloseParen
+  _ ← the_at kinds.OpenParen
+  _ ← the_at kinds.ComdatName
+  the_at kinds.CloseParen
 
 unfoldable pub in_comdat_at : Reader Tok (Option ℕ)
 in_comdat_at = do
-  _ ← the_at heads.Comdat
+  _ ← the_at kinds.Comdat
   _ ← optional_at (among tokens PAREN) comdat_name_at
   done None
 
 unfoldable pub aligned_at : Reader Tok (Option ℕ)
 aligned_at = do
-  _ ← the_at heads.Align
+  _ ← the_at kinds.Align
   n ← token_at is_alignment
   done (Some n)
 
@@ -69,11 +69,11 @@ marked_at = do
   done None
 
 abbrev pub COMDAT : List ℕ
-COMDAT = number heads.Comdat ∷ []
+COMDAT = number kinds.Comdat ∷ []
 
 unfoldable pub further_at : Reader Tok (Option ℕ)
 further_at = do
-  _ ← the_at heads.Comma
+  _ ← the_at kinds.Comma
   pick (among tokens COMDAT) in_comdat_at (pick (among tokens ALIGN) aligned_at marked_at)
 
 unfoldable pub tail_at : Reader Tok (Option ℕ)
@@ -85,7 +85,7 @@ tail_at = do
 abbrev pub headed_at : Reader Tok (Tok × (Option Linkage × Bool))
 headed_at = do
   name ← variable_name_at
-  _ ← the_at heads.Equals
+  _ ← the_at kinds.Equals
   l ← linked_at
   constant ← one_of_at KINDS is_constant
   done (name, (l, constant))
@@ -100,7 +100,7 @@ behind_kind_at name l constant = do
 unfoldable pub variable_line_at : Reader Tok Item
 variable_line_at = do
   name ← variable_name_at
-  _ ← the_at heads.Equals
+  _ ← the_at kinds.Equals
   l ← linked_at
   constant ← one_of_at KINDS is_constant
   behind_kind_at name l constant

@@ -2,7 +2,7 @@
 
 ghost use Rattle.std.specs.Prelude.{◌≡◌, option_map, Ok, IfOk, IfSome};
 ghost use Rattle.ir_lex.specs.Tok.{tok};
-ghost use Rattle.ir_read.specs.Readers.{Gives};
+ghost use Rattle.ir_read.specs.Readers.{Returns};
 ghost use Rattle.ir_read.specs.Rules.{in_range, is_valued};
 ghost use Rattle.ir_read.specs.Classes.{tokens, refusal};
 ghost use Rattle.ir_read.specs.Operands.{IsReg, named};
@@ -10,10 +10,10 @@ ghost use Rattle.ir_read.specs.declared.raw.Operand.TheVariants as operands;
 ghost use Rattle.ir_globals.specs.Constants.{CONSTANTS, type_of, plain, number_of, constant_of};
 ghost use Rattle.ir_globals.specs.ConstantsAt.{single_at, constant_at};
 
-use ir_lex::{Head, Token};
+use ir_lex::{Token, TokenKind};
 use ir_operands::address_at;
 use ir_read::{
-    Fault, InitHead, Name, Operand, ReadError, TokenFault, Tokens, done, literal, named, refusal,
+    Fault, InitHead, Name, Operand, ReaderError, TokenFault, Tokens, done, literal, named, refusal,
 };
 use ir_tree::Reg;
 use std::alloc::{AllocError, Global};
@@ -79,31 +79,35 @@ fn constant_means(
     requires { IfSome scalar IsReg }
     ensures { IfOk result (λ x. x ≡ is_valued tokens refusal CONSTANTS (constant_of scalar) (tok t.now)) }
 {
-    match t.head {
-        Head::Number => number_means(alloc, scalar, t),
-        Head::True => Ok(Ok(InitHead::Plain(Operand::Number { width: 1, bits: 1 }))),
-        Head::False => Ok(Ok(InitHead::Plain(Operand::Number { width: 1, bits: 0 }))),
-        Head::Null => Ok(Ok(InitHead::Plain(Operand::Null))),
-        Head::Poison => Ok(Ok(InitHead::Plain(Operand::Poison(type_of(scalar))))),
-        Head::Global => spelled_means(alloc, t),
-        Head::NumberedGlobal | Head::NumberedDefinition => global_means(alloc, t),
+    match t.kind {
+        TokenKind::Number => number_means(alloc, scalar, t),
+        TokenKind::True => Ok(Ok(InitHead::Plain(Operand::Number { width: 1, bits: 1 }))),
+        TokenKind::False => Ok(Ok(InitHead::Plain(Operand::Number { width: 1, bits: 0 }))),
+        TokenKind::Null => Ok(Ok(InitHead::Plain(Operand::Null))),
+        TokenKind::Poison => Ok(Ok(InitHead::Plain(Operand::Poison(type_of(scalar))))),
+        TokenKind::Global => spelled_means(alloc, t),
+        TokenKind::NumberedGlobal | TokenKind::NumberedDefinition => global_means(alloc, t),
         head => Ok(Err(refusal(head))),
     }
 }
 
-fn single_at(alloc: Global, scalar: Option<Reg>, tokens: &mut Tokens) -> Result<InitHead, ReadError>
+fn single_at(
+    alloc: Global,
+    scalar: Option<Reg>,
+    tokens: &mut Tokens,
+) -> Result<InitHead, ReaderError>
     requires { IfSome scalar IsReg }
-    ensures { Gives (λ x. (x, tokens.new)) result (single_at scalar tokens.old) }
+    ensures { Returns (λ x. (x, tokens.new)) result (single_at scalar tokens.old) }
 {
     let left = tokens.left();
     match tokens.take() {
-        None => Err(ReadError::Fault(Fault {
+        None => Err(ReaderError::Fault(Fault {
             left,
             kind: TokenFault::Syntax,
         })),
         Some(t) => match constant_means(alloc, scalar, &t)? {
             Ok(x) => Ok(x),
-            Err(kind) => Err(ReadError::Fault(Fault { left, kind })),
+            Err(kind) => Err(ReaderError::Fault(Fault { left, kind })),
         },
     }
 }
@@ -118,11 +122,11 @@ pub fn constant_at(
     alloc: Global,
     scalar: Option<Reg>,
     tokens: &mut Tokens,
-) -> Result<InitHead, ReadError>
+) -> Result<InitHead, ReaderError>
     requires { IfSome scalar IsReg }
-    ensures { Gives (λ x. (x, tokens.new)) result (constant_at scalar tokens.old) }
+    ensures { Returns (λ x. (x, tokens.new)) result (constant_at scalar tokens.old) }
 {
-    if tokens.comes(Head::GetElementPtr) {
+    if tokens.comes(TokenKind::GetElementPtr) {
         let address = address_at(alloc, tokens)?;
         done(InitHead::Plain(address))
     } else {

@@ -2,10 +2,10 @@
 //! kept in a list, so an initialiser may nest as deep as its text does.
 
 ghost use Rattle.std.specs.Prelude.{◌≡◌, List, not, reverse, IfOk, IfSome};
-ghost use Rattle.ir_lex.specs.Heads.{number};
+ghost use Rattle.ir_lex.specs.TokenKinds.{number};
 ghost use Rattle.ir_read.specs.Alphabet.{contains, among};
 ghost use Rattle.ir_read.specs.Chained.{stops_here};
-ghost use Rattle.ir_read.specs.Readers.{Gives, next_is};
+ghost use Rattle.ir_read.specs.Readers.{Returns, next_is};
 ghost use Rattle.ir_read.specs.Classes.{tokens};
 ghost use Rattle.ir_read.specs.Operands.{IsReg};
 ghost use Rattle.ir_operands.specs.ShapeFormsAt.{memory_shape_at};
@@ -15,11 +15,11 @@ ghost use Rattle.ir_globals.specs.InitialisersAt.{bytes_at, aggregate_begin_at, 
 
 use crate::constants::constant_at;
 use crate::pairs::beside;
-use ir_lex::Head;
+use ir_lex::TokenKind;
 use ir_operands::{brace_behind_angle_at, memory_shape_at};
 use ir_read::{
-    Fault, Init, InitHead, InitPart, Name, ReadError, Shape, ShapeNode, TokenFault, Tokens, Typed,
-    done, expect, memory_refusal, refusal,
+    Fault, Init, InitHead, InitPart, Name, ReaderError, Shape, ShapeNode, TokenFault, Tokens,
+    Typed, done, expect, memory_refusal, refusal,
 };
 use ir_tree::{Reg, Rows};
 use std::alloc::{AllocFailed, Global};
@@ -76,23 +76,23 @@ fn aggregate_of(head: &InitHead) -> Option<Aggregate>
 
 /// Takes a string of bytes.
 #[tactic(auto, unfolding(ir_read::specs::Rules::is_among, crate::specs::InitialisersAt::bytes_at))]
-fn bytes_at(alloc: Global, tokens: &mut Tokens) -> Result<InitHead, ReadError>
-    ensures { Gives (λ x. (x, tokens.new)) result (bytes_at tokens.old) }
+fn bytes_at(alloc: Global, tokens: &mut Tokens) -> Result<InitHead, ReaderError>
+    ensures { Returns (λ x. (x, tokens.new)) result (bytes_at tokens.old) }
 {
     let left = tokens.left();
     match tokens.take() {
-        None => Err(ReadError::Fault(Fault {
+        None => Err(ReaderError::Fault(Fault {
             left,
             kind: TokenFault::Syntax,
         })),
         Some(t) => {
-            if t.head.is(Head::CStr) {
+            if t.kind.is(TokenKind::CStr) {
                 let name = Name::of(alloc, &t)?;
                 done(InitHead::Bytes(name))
             } else {
-                Err(ReadError::Fault(Fault {
+                Err(ReaderError::Fault(Fault {
                     left,
-                    kind: refusal(t.head),
+                    kind: refusal(t.kind),
                 }))
             }
         }
@@ -111,25 +111,25 @@ fn opening(aggregate: Aggregate) -> InitHead
 
 /// Takes what the parts of an aggregate stand behind.
 #[tactic(auto, unfolding(crate::specs::InitialisersAt::aggregate_begin_at, crate::specs::InitialisersAt::array_begin_at, crate::specs::InitialisersAt::structure_begin_at, crate::specs::InitialisersAt::packed_begin_at))]
-fn opening_at(tokens: &mut Tokens) -> Result<Aggregate, ReadError>
-    ensures { Gives (λ x. (opening x, tokens.new)) result (aggregate_begin_at tokens.old) }
+fn opening_at(tokens: &mut Tokens) -> Result<Aggregate, ReaderError>
+    ensures { Returns (λ x. (opening x, tokens.new)) result (aggregate_begin_at tokens.old) }
 {
-    if tokens.comes(Head::OpenBracket) {
-        expect(Head::OpenBracket, tokens)?;
+    if tokens.comes(TokenKind::OpenBracket) {
+        expect(TokenKind::OpenBracket, tokens)?;
         Ok(Aggregate::Array)
-    } else if tokens.comes(Head::OpenBrace) {
-        expect(Head::OpenBrace, tokens)?;
+    } else if tokens.comes(TokenKind::OpenBrace) {
+        expect(TokenKind::OpenBrace, tokens)?;
         Ok(Aggregate::Struct { packed: false })
     } else {
-        expect(Head::OpenAngle, tokens)?;
+        expect(TokenKind::OpenAngle, tokens)?;
         brace_behind_angle_at(tokens)?;
         Ok(Aggregate::Struct { packed: true })
     }
 }
 
 /// Reads the beginning of an initialiser with parts.
-fn aggregate_begin_at(tokens: &mut Tokens) -> Result<InitHead, ReadError>
-    ensures { Gives (λ x. (x, tokens.new)) result (aggregate_begin_at tokens.old) }
+fn aggregate_begin_at(tokens: &mut Tokens) -> Result<InitHead, ReaderError>
+    ensures { Returns (λ x. (x, tokens.new)) result (aggregate_begin_at tokens.old) }
 {
     let aggregate = opening_at(tokens)?;
     done(opening(aggregate))
@@ -141,14 +141,14 @@ fn beginning_at(
     alloc: Global,
     scalar: Option<Reg>,
     tokens: &mut Tokens,
-) -> Result<InitHead, ReadError>
+) -> Result<InitHead, ReaderError>
     requires { IfSome scalar IsReg }
-    ensures { Gives (λ x. (x, tokens.new)) result (beginning_at scalar tokens.old) }
+    ensures { Returns (λ x. (x, tokens.new)) result (beginning_at scalar tokens.old) }
 {
-    if tokens.comes(Head::ZeroInitializer) {
-        expect(Head::ZeroInitializer, tokens)?;
+    if tokens.comes(TokenKind::ZeroInitializer) {
+        expect(TokenKind::ZeroInitializer, tokens)?;
         Ok(InitHead::Zeros)
-    } else if tokens.comes(Head::CStr) {
+    } else if tokens.comes(TokenKind::CStr) {
         bytes_at(alloc, tokens)
     } else if tokens.comes_bracket() {
         aggregate_begin_at(tokens)
@@ -159,7 +159,7 @@ fn beginning_at(
 
 /// Why a token can't stand where an aggregate must close, if none of its parts stands there yet, or if
 /// one does.
-fn closing_refusal(none: bool, head: Head) -> TokenFault
+fn closing_refusal(none: bool, head: TokenKind) -> TokenFault
     ensures { result ≡ closing_refusal none (number head) }
 {
     if none {
@@ -170,22 +170,22 @@ fn closing_refusal(none: bool, head: Head) -> TokenFault
 }
 
 #[tactic(auto, unfolding(ir_read::specs::Rules::is_class))]
-fn mark_at(none: bool, wanted: Head, tokens: &mut Tokens) -> Result<(), ReadError>
-    ensures { Gives (λ x. (tt, tokens.new)) result (mark_at none wanted tokens.old) }
+fn mark_at(none: bool, wanted: TokenKind, tokens: &mut Tokens) -> Result<(), ReaderError>
+    ensures { Returns (λ x. (tt, tokens.new)) result (mark_at none wanted tokens.old) }
 {
     let left = tokens.left();
     match tokens.take() {
-        None => Err(ReadError::Fault(Fault {
+        None => Err(ReaderError::Fault(Fault {
             left,
             kind: TokenFault::Syntax,
         })),
         Some(t) => {
-            if t.head.is(wanted) {
+            if t.kind.is(wanted) {
                 Ok(())
             } else {
-                Err(ReadError::Fault(Fault {
+                Err(ReaderError::Fault(Fault {
                     left,
-                    kind: closing_refusal(none, t.head),
+                    kind: closing_refusal(none, t.kind),
                 }))
             }
         }
@@ -194,15 +194,15 @@ fn mark_at(none: bool, wanted: Head, tokens: &mut Tokens) -> Result<(), ReadErro
 
 /// Takes what closes an aggregate.
 #[tactic(auto, unfolding(crate::specs::InitialisersAt::brace_at))]
-fn closing_at(none: bool, aggregate: Aggregate, tokens: &mut Tokens) -> Result<(), ReadError>
-    ensures { Gives (λ x. (tt, tokens.new)) result (closing_at none aggregate tokens.old) }
+fn closing_at(none: bool, aggregate: Aggregate, tokens: &mut Tokens) -> Result<(), ReaderError>
+    ensures { Returns (λ x. (tt, tokens.new)) result (closing_at none aggregate tokens.old) }
 {
     match aggregate {
-        Aggregate::Array => mark_at(none, Head::CloseBracket, tokens),
+        Aggregate::Array => mark_at(none, TokenKind::CloseBracket, tokens),
         Aggregate::Struct { packed } => {
-            mark_at(none, Head::CloseBrace, tokens)?;
+            mark_at(none, TokenKind::CloseBrace, tokens)?;
             if packed {
-                expect(Head::CloseAngle, tokens)
+                expect(TokenKind::CloseAngle, tokens)
             } else {
                 Ok(())
             }
@@ -215,14 +215,14 @@ fn comes_closing(aggregate: Aggregate, rest: &Tokens) -> bool
     ensures { result ≡ next_is (among tokens (CLOSER aggregate)) rest.now }
 {
     match aggregate {
-        Aggregate::Array => rest.comes(Head::CloseBracket),
-        Aggregate::Struct { packed: _ } => rest.comes(Head::CloseBrace),
+        Aggregate::Array => rest.comes(TokenKind::CloseBracket),
+        Aggregate::Struct { packed: _ } => rest.comes(TokenKind::CloseBrace),
     }
 }
 
 /// Reads a shape of memory. If it is a scalar it has the type of a register.
-pub fn shape_at(alloc: Global, tokens: &mut Tokens) -> Result<Typed, ReadError>
-    ensures exact { Gives (λ x. (x, tokens.new)) result (memory_shape_at tokens.old) }
+pub fn shape_at(alloc: Global, tokens: &mut Tokens) -> Result<Typed, ReaderError>
+    ensures exact { Returns (λ x. (x, tokens.new)) result (memory_shape_at tokens.old) }
     ensures ranged { IfOk result (λ x. IfSome (scalar_of x.shape) IsReg) }
 {
     let shape = memory_shape_at(alloc, tokens)?;
@@ -230,20 +230,20 @@ pub fn shape_at(alloc: Global, tokens: &mut Tokens) -> Result<Typed, ReadError>
 }
 
 /// Reads the shape of a part, with a comma before it where it is not the first.
-fn part_shape_at(alloc: Global, first: bool, tokens: &mut Tokens) -> Result<Typed, ReadError>
-    ensures exact { Gives (λ x. (x, tokens.new)) result (part_shape_at first tokens.old) }
+fn part_shape_at(alloc: Global, first: bool, tokens: &mut Tokens) -> Result<Typed, ReaderError>
+    ensures exact { Returns (λ x. (x, tokens.new)) result (part_shape_at first tokens.old) }
     ensures ranged { IfOk result (λ x. IfSome (scalar_of x.shape) IsReg) }
 {
     if first {
         return shape_at(alloc, tokens);
     }
-    expect(Head::Comma, tokens)?;
+    expect(TokenKind::Comma, tokens)?;
     shape_at(alloc, tokens)
 }
 
 /// Reads a part up to its own parts, inside any aggregates.
-fn part_at(alloc: Global, first: bool, tokens: &mut Tokens) -> Result<Part, ReadError>
-    ensures { (outer : List Aggregate) → Gives (λ x. ((x.part, entered x.inner outer), tokens.new)) result (begun_at first outer tokens.old) }
+fn part_at(alloc: Global, first: bool, tokens: &mut Tokens) -> Result<Part, ReaderError>
+    ensures { (outer : List Aggregate) → Returns (λ x. ((x.part, entered x.inner outer), tokens.new)) result (begun_at first outer tokens.old) }
 {
     let typed = part_shape_at(alloc, first, tokens)?;
     let head = beginning_at(alloc, scalar_of(&typed.shape), tokens)?;
@@ -276,8 +276,8 @@ fn begun_at(
     first: bool,
     around: &mut Vec<Aggregate>,
     tokens: &mut Tokens,
-) -> Result<Piece, ReadError>
-    ensures { Gives (λ x. ((x.part, (x.first, reverse around.new.items)), tokens.new)) result (begun_at first (reverse around.old.items) tokens.old) }
+) -> Result<Piece, ReaderError>
+    ensures { Returns (λ x. ((x.part, (x.first, reverse around.new.items)), tokens.new)) result (begun_at first (reverse around.old.items) tokens.old) }
 {
     let begun = part_at(alloc, first, tokens)?;
     let first = enter(begun.inner, around)?;
@@ -295,8 +295,8 @@ fn piece_at(
     first: bool,
     around: &mut Vec<Aggregate>,
     tokens: &mut Tokens,
-) -> Result<Piece, ReadError>
-    ensures { Gives (λ x. ((x.part, (x.first, reverse around.new.items)), tokens.new)) result (piece_at first (reverse around.old.items) tokens.old) }
+) -> Result<Piece, ReaderError>
+    ensures { Returns (λ x. ((x.part, (x.first, reverse around.new.items)), tokens.new)) result (piece_at first (reverse around.old.items) tokens.old) }
 {
     let Some(inner) = around.pop() else {
         return begun_at(alloc, first, around, tokens);
@@ -313,17 +313,17 @@ fn piece_at(
     }
 }
 
-fn begins_shape(head: Head) -> bool
+fn begins_shape(head: TokenKind) -> bool
     ensures { result ≡ contains SHAPE (number head) }
 {
     matches!(
         head,
-        Head::OpenBracket
-            | Head::OpenBrace
-            | Head::OpenAngle
-            | Head::Local
-            | Head::MemoryInteger
-            | Head::Ptr
+        TokenKind::OpenBracket
+            | TokenKind::OpenBrace
+            | TokenKind::OpenAngle
+            | TokenKind::Local
+            | TokenKind::MemoryInteger
+            | TokenKind::Ptr
     )
 }
 
@@ -331,7 +331,7 @@ fn begins_shape(head: Head) -> bool
 fn comes_shape(rest: &Tokens) -> bool
     ensures { result ≡ next_is (among tokens SHAPE) rest.now }
 {
-    match rest.head() {
+    match rest.kind() {
         Some(head) => begins_shape(head),
         None => false,
     }
@@ -344,7 +344,7 @@ fn comes_part(first: bool, rest: &Tokens) -> bool
     if first {
         comes_shape(rest)
     } else {
-        rest.comes(Head::Comma)
+        rest.comes(TokenKind::Comma)
     }
 }
 
@@ -360,8 +360,8 @@ fn goes_on(first: bool, around: &[Aggregate], rest: &Tokens) -> bool
 }
 
 /// Reads the parts of an aggregate, each before its own parts and their end.
-fn listed_at(alloc: Global, tokens: &mut Tokens) -> Result<Vec<InitPart>, ReadError>
-    ensures { Gives (λ x. (x.items, tokens.new)) result (listed_at tokens.old) }
+fn listed_at(alloc: Global, tokens: &mut Tokens) -> Result<Vec<InitPart>, ReaderError>
+    ensures { Returns (λ x. (x.items, tokens.new)) result (listed_at tokens.old) }
 {
     let mut parts = Vec::new(alloc);
     let mut around = Vec::new(alloc);
@@ -390,8 +390,8 @@ fn parts_at(
     alloc: Global,
     whole: Aggregate,
     tokens: &mut Tokens,
-) -> Result<Vec<InitPart>, ReadError>
-    ensures { Gives (λ x. (x.items, tokens.new)) result (parts_at whole tokens.old) }
+) -> Result<Vec<InitPart>, ReaderError>
+    ensures { Returns (λ x. (x.items, tokens.new)) result (parts_at whole tokens.old) }
 {
     let mut parts = listed_at(alloc, tokens)?;
     closing_at(is_none(&parts), whole, tokens)?;
@@ -404,8 +404,8 @@ fn behind_at(
     alloc: Global,
     whole: Option<Aggregate>,
     tokens: &mut Tokens,
-) -> Result<Vec<InitPart>, ReadError>
-    ensures { Gives (λ x. (x.items, tokens.new)) result (behind_at whole tokens.old) }
+) -> Result<Vec<InitPart>, ReaderError>
+    ensures { Returns (λ x. (x.items, tokens.new)) result (behind_at whole tokens.old) }
 {
     match whole {
         None => Ok(Vec::new(alloc)),
@@ -419,9 +419,9 @@ pub fn initialiser_at(
     alloc: Global,
     scalar: Option<Reg>,
     tokens: &mut Tokens,
-) -> Result<Init, ReadError>
+) -> Result<Init, ReaderError>
     requires { IfSome scalar IsReg }
-    ensures { Gives (λ x. (x, tokens.new)) result (initialiser_at scalar tokens.old) }
+    ensures { Returns (λ x. (x, tokens.new)) result (initialiser_at scalar tokens.old) }
 {
     let root = beginning_at(alloc, scalar, tokens)?;
     let parts = behind_at(alloc, aggregate_of(&root), tokens);

@@ -1,7 +1,7 @@
 //! Reads global variables with their initialisers, type definitions, target lines and attribute groups, with their
 //! names as they are written.
 //!
-//! Below stand lines of the target and attribute groups (`ir_heads`), shapes and operands (`ir_operands`), a class of
+//! Below stand lines of the target and attribute groups (`ir_heads`), shapes and operands (`ir_operands`), a kind of
 //! tokens of `ir_instructions` in definitions alone, names, types and the laws of forms (`ir_read`), and tokens
 //! (`ir_lex`). An initialiser nests as deep as its text does: it is kept as a flat list of parts, with the aggregates
 //! that are open on a stack, so nothing recurses but in shapes. A number for a pointer, or for what is no scalar, is

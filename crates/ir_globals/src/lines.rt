@@ -1,13 +1,13 @@
 //! Reads target lines and attribute groups (LangRef, "Data Layout", "Target Triple", "Attribute Groups").
 
-ghost use Rattle.ir_read.specs.Readers.{Gives};
+ghost use Rattle.ir_read.specs.Readers.{Returns};
 ghost use Rattle.ir_operands.specs.Adding.{pushed_at};
 ghost use Rattle.ir_heads.specs.AttributesAt.{attribute_group_at};
 ghost use Rattle.ir_heads.specs.TargetsAt.{layout_line_at, triple_line_at};
 
 use ir_heads::{attribute_group_at, layout_line_at, triple_line_at};
 use ir_operands::push_item;
-use ir_read::{Item, ReadError, Tokens};
+use ir_read::{Item, ReaderError, Tokens};
 use std::alloc::Global;
 
 /// Reads the layout of the target behind `target`, and adds it.
@@ -15,8 +15,8 @@ pub fn layout_line_into(
     alloc: Global,
     items: &mut Vec<Item>,
     tokens: &mut Tokens,
-) -> Result<(), ReadError>
-    ensures { Gives (λ _. (items.new.items, tokens.new)) result (pushed_at items.old.items layout_line_at tokens.old) }
+) -> Result<(), ReaderError>
+    ensures { Returns (λ _. (items.new.items, tokens.new)) result (pushed_at items.old.items layout_line_at tokens.old) }
 {
     let layout = layout_line_at(alloc, tokens)?;
     push_item(items, Item::Datalayout(layout))
@@ -27,8 +27,8 @@ pub fn triple_line_into(
     alloc: Global,
     items: &mut Vec<Item>,
     tokens: &mut Tokens,
-) -> Result<(), ReadError>
-    ensures { Gives (λ _. (items.new.items, tokens.new)) result (pushed_at items.old.items triple_line_at tokens.old) }
+) -> Result<(), ReaderError>
+    ensures { Returns (λ _. (items.new.items, tokens.new)) result (pushed_at items.old.items triple_line_at tokens.old) }
 {
     let triple = triple_line_at(alloc, tokens)?;
     push_item(items, Item::Triple(triple))
@@ -39,8 +39,8 @@ pub fn attribute_group_into(
     alloc: Global,
     items: &mut Vec<Item>,
     tokens: &mut Tokens,
-) -> Result<(), ReadError>
-    ensures { Gives (λ _. (items.new.items, tokens.new)) result (pushed_at items.old.items attribute_group_at tokens.old) }
+) -> Result<(), ReaderError>
+    ensures { Returns (λ _. (items.new.items, tokens.new)) result (pushed_at items.old.items attribute_group_at tokens.old) }
 {
     let group = attribute_group_at(alloc, tokens)?;
     push_item(items, group)

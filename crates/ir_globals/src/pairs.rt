@@ -5,10 +5,13 @@
 
 ghost use Rattle.ir_globals.specs.Beside.{IsBeside};
 
-use ir_read::ReadError;
+use ir_read::ReaderError;
 
 /// A value, and what was read behind it.
-pub fn beside<A: Drop, B: Drop>(first: A, read: Result<B, ReadError>) -> Result<(A, B), ReadError>
+pub fn beside<A: Drop, B: Drop>(
+    first: A,
+    read: Result<B, ReaderError>,
+) -> Result<(A, B), ReaderError>
     ensures { IsBeside first read result }
 {
     let second = read?;

@@ -1,22 +1,22 @@
 //! Reads type definitions (LangRef, "Structure Type", "Opaque Structure Types").
 
 ghost use Rattle.std.specs.Prelude.{◌≡◌};
-ghost use Rattle.ir_read.specs.Readers.{Gives};
+ghost use Rattle.ir_read.specs.Readers.{Returns};
 ghost use Rattle.ir_operands.specs.Adding.{pushed_at};
 ghost use Rattle.ir_globals.specs.TypeDefinitionsAt.{defined_at, type_line_at, type_name_at};
 
-use ir_lex::Head;
+use ir_lex::TokenKind;
 use ir_operands::{memory_shape_at, push_item};
-use ir_read::{Item, Name, ReadError, Tokens, Typed, done, expect, local_at};
+use ir_read::{Item, Name, ReaderError, Tokens, Typed, done, expect, local_at};
 use std::alloc::Global;
 
 /// Reads what a type name stands for: a shape, or nothing where it is opaque.
 #[tactic(auto, unfolding(crate::specs::TypeDefinitionsAt::defined_at))]
-fn defined_at(alloc: Global, tokens: &mut Tokens) -> Result<Option<Typed>, ReadError>
-    ensures { Gives (λ x. (x, tokens.new)) result (defined_at tokens.old) }
+fn defined_at(alloc: Global, tokens: &mut Tokens) -> Result<Option<Typed>, ReaderError>
+    ensures { Returns (λ x. (x, tokens.new)) result (defined_at tokens.old) }
 {
-    if tokens.comes(Head::Opaque) {
-        expect(Head::Opaque, tokens)?;
+    if tokens.comes(TokenKind::Opaque) {
+        expect(TokenKind::Opaque, tokens)?;
         Ok(None)
     } else {
         let shape = memory_shape_at(alloc, tokens)?;
@@ -25,12 +25,12 @@ fn defined_at(alloc: Global, tokens: &mut Tokens) -> Result<Option<Typed>, ReadE
 }
 
 /// Reads what stands before what a type name stands for: the name.
-fn type_name_at(alloc: Global, tokens: &mut Tokens) -> Result<Name, ReadError>
-    ensures { Gives (λ x. (x, tokens.new)) result (type_name_at tokens.old) }
+fn type_name_at(alloc: Global, tokens: &mut Tokens) -> Result<Name, ReaderError>
+    ensures { Returns (λ x. (x, tokens.new)) result (type_name_at tokens.old) }
 {
     let name = local_at(alloc, tokens)?;
-    expect(Head::Equals, tokens)?;
-    expect(Head::Type, tokens)?;
+    expect(TokenKind::Equals, tokens)?;
+    expect(TokenKind::Type, tokens)?;
     Ok(name)
 }
 
@@ -41,8 +41,8 @@ pub fn type_line_into(
     alloc: Global,
     items: &mut Vec<Item>,
     tokens: &mut Tokens,
-) -> Result<(), ReadError>
-    ensures { Gives (λ _. (items.new.items, tokens.new)) result (pushed_at items.old.items type_line_at tokens.old) }
+) -> Result<(), ReaderError>
+    ensures { Returns (λ _. (items.new.items, tokens.new)) result (pushed_at items.old.items type_line_at tokens.old) }
 {
     let name = type_name_at(alloc, tokens)?;
     let typed = defined_at(alloc, tokens)?;

@@ -1,10 +1,10 @@
 //! Reads global variables (LangRef, "Global Variables", "Linkage Types", "Comdats").
 
 ghost use Rattle.std.specs.Prelude.{◌≡◌, IfSome, IfOk};
-ghost use Rattle.ir_lex.specs.Heads.{number};
+ghost use Rattle.ir_lex.specs.TokenKinds.{number};
 ghost use Rattle.ir_lex.specs.Tok.{tok};
 ghost use Rattle.ir_read.specs.Alphabet.{contains, among};
-ghost use Rattle.ir_read.specs.Readers.{Gives, next_is};
+ghost use Rattle.ir_read.specs.Readers.{Returns, next_is};
 ghost use Rattle.ir_read.specs.Rules.{is_valued};
 ghost use Rattle.ir_read.specs.Classes.{tokens, one_of_at};
 ghost use Rattle.ir_heads.specs.FunctionHeads.{LINKAGES, linkage_word, name_refusal};
@@ -16,10 +16,10 @@ ghost use Rattle.ir_globals.specs.VariablesAt.{variable_name_at, linkage_at, qua
 
 use crate::initialisers::{initialiser_at, scalar_of, shape_at};
 use ir_heads::{comes_qualifier, linkage_by, name_refusal, qualifier_word_at, with_linkage};
-use ir_lex::{Head, Token};
+use ir_lex::{Token, TokenKind};
 use ir_operands::push_item;
 use ir_read::{
-    Fault, Init, Item, Name, ReadError, TokenFault, Tokens, Variable, alignment_at, attached_at,
+    Fault, Init, Item, Name, ReaderError, TokenFault, Tokens, Variable, alignment_at, attached_at,
     done, expect, global_named, refusal,
 };
 use ir_tree::{Linkage, Reg};
@@ -30,8 +30,8 @@ use std::alloc::{AllocError, Global};
 fn name_means(alloc: Global, t: &Token) -> Result<Result<Name, TokenFault>, AllocError>
     ensures { IfOk result (λ x. x ≡ is_valued tokens name_refusal NAMES global_named (tok t.now)) }
 {
-    match t.head {
-        Head::Global | Head::NumberedDefinition => match global_named(alloc, t)? {
+    match t.kind {
+        TokenKind::Global | TokenKind::NumberedDefinition => match global_named(alloc, t)? {
             None => Ok(Err(TokenFault::Number)),
             Some(name) => Ok(Ok(name)),
         },
@@ -41,35 +41,35 @@ fn name_means(alloc: Global, t: &Token) -> Result<Result<Name, TokenFault>, Allo
 
 /// Takes the name of a variable. One that is a number is taken where `= private` or `= internal`
 /// stands behind it.
-fn variable_name_at(alloc: Global, tokens: &mut Tokens) -> Result<Name, ReadError>
-    ensures { Gives (λ x. (x, tokens.new)) result (variable_name_at tokens.old) }
+fn variable_name_at(alloc: Global, tokens: &mut Tokens) -> Result<Name, ReaderError>
+    ensures { Returns (λ x. (x, tokens.new)) result (variable_name_at tokens.old) }
 {
     let left = tokens.left();
     match tokens.take() {
-        None => Err(ReadError::Fault(Fault {
+        None => Err(ReaderError::Fault(Fault {
             left,
             kind: TokenFault::Syntax,
         })),
         Some(t) => match name_means(alloc, &t)? {
             Ok(x) => Ok(x),
-            Err(kind) => Err(ReadError::Fault(Fault { left, kind })),
+            Err(kind) => Err(ReaderError::Fault(Fault { left, kind })),
         },
     }
 }
 
-fn is_linkage(head: Head) -> bool
+fn is_linkage(head: TokenKind) -> bool
     ensures { result ≡ contains LINKAGES (number head) }
 {
     matches!(
         head,
-        Head::Private
-            | Head::Internal
-            | Head::External
-            | Head::Linkonce
-            | Head::LinkonceOdr
-            | Head::Weak
-            | Head::WeakOdr
-            | Head::AvailableExternally
+        TokenKind::Private
+            | TokenKind::Internal
+            | TokenKind::External
+            | TokenKind::Linkonce
+            | TokenKind::LinkonceOdr
+            | TokenKind::Weak
+            | TokenKind::WeakOdr
+            | TokenKind::AvailableExternally
     )
 }
 
@@ -77,29 +77,29 @@ fn is_linkage(head: Head) -> bool
 fn comes_linkage(rest: &Tokens) -> bool
     ensures { result ≡ next_is (among tokens LINKAGES) rest.now }
 {
-    match rest.head() {
+    match rest.kind() {
         Some(head) => is_linkage(head),
         None => false,
     }
 }
 
 #[tactic(auto, unfolding(ir_read::specs::Rules::is_among))]
-fn linkage_word_at(tokens: &mut Tokens) -> Result<Linkage, ReadError>
-    ensures { Gives (λ x. (x, tokens.new)) result (one_of_at LINKAGES linkage_word tokens.old) }
+fn linkage_word_at(tokens: &mut Tokens) -> Result<Linkage, ReaderError>
+    ensures { Returns (λ x. (x, tokens.new)) result (one_of_at LINKAGES linkage_word tokens.old) }
 {
     let left = tokens.left();
     match tokens.take() {
-        None => Err(ReadError::Fault(Fault {
+        None => Err(ReaderError::Fault(Fault {
             left,
             kind: TokenFault::Syntax,
         })),
         Some(t) => {
-            if is_linkage(t.head) {
-                Ok(linkage_by(t.head))
+            if is_linkage(t.kind) {
+                Ok(linkage_by(t.kind))
             } else {
-                Err(ReadError::Fault(Fault {
+                Err(ReaderError::Fault(Fault {
                     left,
-                    kind: refusal(t.head),
+                    kind: refusal(t.kind),
                 }))
             }
         }
@@ -107,8 +107,8 @@ fn linkage_word_at(tokens: &mut Tokens) -> Result<Linkage, ReadError>
 }
 
 /// Takes a linkage, where one stands.
-fn linkage_at(tokens: &mut Tokens) -> Result<Option<Linkage>, ReadError>
-    ensures { Gives (λ x. (x, tokens.new)) result (linkage_at tokens.old) }
+fn linkage_at(tokens: &mut Tokens) -> Result<Option<Linkage>, ReaderError>
+    ensures { Returns (λ x. (x, tokens.new)) result (linkage_at tokens.old) }
 {
     if comes_linkage(tokens) {
         let linkage = linkage_word_at(tokens)?;
@@ -120,8 +120,8 @@ fn linkage_at(tokens: &mut Tokens) -> Result<Option<Linkage>, ReadError>
 
 /// Takes the words of visibility, of addresses and of calling conventions, and drops them.
 #[tactic(auto, unfolding(crate::specs::VariablesAt::qualifiers_at))]
-fn qualifiers_at(tokens: &mut Tokens) -> Result<(), ReadError>
-    ensures { Gives (λ x. (tt, tokens.new)) result (qualifiers_at tokens.old) }
+fn qualifiers_at(tokens: &mut Tokens) -> Result<(), ReaderError>
+    ensures { Returns (λ x. (tt, tokens.new)) result (qualifiers_at tokens.old) }
 {
     'each: while comes_qualifier(tokens) {
         qualifier_word_at(tokens)?;
@@ -131,8 +131,8 @@ fn qualifiers_at(tokens: &mut Tokens) -> Result<(), ReadError>
 
 /// Reads what stands before `global` or `constant`: the linkage that is written.
 #[tactic(auto, unfolding(crate::specs::VariablesAt::linked_at))]
-fn linked_at(tokens: &mut Tokens) -> Result<Option<Linkage>, ReadError>
-    ensures { Gives (λ x. (x, tokens.new)) result (linked_at tokens.old) }
+fn linked_at(tokens: &mut Tokens) -> Result<Option<Linkage>, ReaderError>
+    ensures { Returns (λ x. (x, tokens.new)) result (linked_at tokens.old) }
 {
     let linkage = linkage_at(tokens)?;
     qualifiers_at(tokens)?;
@@ -141,19 +141,19 @@ fn linked_at(tokens: &mut Tokens) -> Result<Option<Linkage>, ReadError>
 
 /// Takes `global` or `constant`; the answer is whether it is `constant`.
 #[tactic(auto, unfolding(ir_read::specs::Rules::is_among))]
-fn kind_at(tokens: &mut Tokens) -> Result<bool, ReadError>
-    ensures { Gives (λ x. (x, tokens.new)) result (one_of_at KINDS is_constant tokens.old) }
+fn kind_at(tokens: &mut Tokens) -> Result<bool, ReaderError>
+    ensures { Returns (λ x. (x, tokens.new)) result (one_of_at KINDS is_constant tokens.old) }
 {
     let left = tokens.left();
     match tokens.take() {
-        None => Err(ReadError::Fault(Fault {
+        None => Err(ReaderError::Fault(Fault {
             left,
             kind: TokenFault::Syntax,
         })),
-        Some(t) => match t.head {
-            Head::GlobalVariable => Ok(false),
-            Head::Constant => Ok(true),
-            head => Err(ReadError::Fault(Fault {
+        Some(t) => match t.kind {
+            TokenKind::GlobalVariable => Ok(false),
+            TokenKind::Constant => Ok(true),
+            head => Err(ReaderError::Fault(Fault {
                 left,
                 kind: refusal(head),
             })),
@@ -174,9 +174,9 @@ fn value_at(
     declared: bool,
     scalar: Option<Reg>,
     tokens: &mut Tokens,
-) -> Result<Option<Init>, ReadError>
+) -> Result<Option<Init>, ReaderError>
     requires { IfSome scalar IsReg }
-    ensures { Gives (λ x. (x, tokens.new)) result (value_at declared scalar tokens.old) }
+    ensures { Returns (λ x. (x, tokens.new)) result (value_at declared scalar tokens.old) }
 {
     if declared {
         return Ok(None);
@@ -187,21 +187,21 @@ fn value_at(
 
 /// Takes the name of a comdat in brackets.
 #[tactic(auto, unfolding(crate::specs::VariablesAt::comdat_name_at))]
-fn comdat_name_at(tokens: &mut Tokens) -> Result<(), ReadError>
-    ensures { Gives (λ x. (tt, tokens.new)) result (comdat_name_at tokens.old) }
+fn comdat_name_at(tokens: &mut Tokens) -> Result<(), ReaderError>
+    ensures { Returns (λ x. (tt, tokens.new)) result (comdat_name_at tokens.old) }
 {
-    expect(Head::OpenParen, tokens)?;
-    expect(Head::ComdatName, tokens)?;
-    expect(Head::CloseParen, tokens)
+    expect(TokenKind::OpenParen, tokens)?;
+    expect(TokenKind::ComdatName, tokens)?;
+    expect(TokenKind::CloseParen, tokens)
 }
 
 /// Reads `comdat [(Comdat)]`, and drops it.
 #[tactic(auto, unfolding(crate::specs::VariablesAt::in_comdat_at))]
-fn in_comdat_at(tokens: &mut Tokens) -> Result<Option<u64>, ReadError>
-    ensures { Gives (λ x. (x, tokens.new)) result (in_comdat_at tokens.old) }
+fn in_comdat_at(tokens: &mut Tokens) -> Result<Option<u64>, ReaderError>
+    ensures { Returns (λ x. (x, tokens.new)) result (in_comdat_at tokens.old) }
 {
-    expect(Head::Comdat, tokens)?;
-    if tokens.comes(Head::OpenParen) {
+    expect(TokenKind::Comdat, tokens)?;
+    if tokens.comes(TokenKind::OpenParen) {
         comdat_name_at(tokens)?;
     }
     Ok(None)
@@ -209,23 +209,23 @@ fn in_comdat_at(tokens: &mut Tokens) -> Result<Option<u64>, ReadError>
 
 /// Reads `align N`.
 #[tactic(auto, unfolding(crate::specs::VariablesAt::aligned_at))]
-fn aligned_at(tokens: &mut Tokens) -> Result<Option<u64>, ReadError>
-    ensures { Gives (λ x. (x, tokens.new)) result (aligned_at tokens.old) }
+fn aligned_at(tokens: &mut Tokens) -> Result<Option<u64>, ReaderError>
+    ensures { Returns (λ x. (x, tokens.new)) result (aligned_at tokens.old) }
 {
-    expect(Head::Align, tokens)?;
+    expect(TokenKind::Align, tokens)?;
     let align = alignment_at(tokens)?;
     Ok(Some(align))
 }
 
 /// Reads what follows the initialiser behind a comma: the alignment, where it is one.
 #[tactic(auto, unfolding(crate::specs::VariablesAt::further_at, crate::specs::VariablesAt::marked_at))]
-fn further_at(alloc: Global, tokens: &mut Tokens) -> Result<Option<u64>, ReadError>
-    ensures { Gives (λ x. (x, tokens.new)) result (further_at tokens.old) }
+fn further_at(alloc: Global, tokens: &mut Tokens) -> Result<Option<u64>, ReaderError>
+    ensures { Returns (λ x. (x, tokens.new)) result (further_at tokens.old) }
 {
-    expect(Head::Comma, tokens)?;
-    if tokens.comes(Head::Comdat) {
+    expect(TokenKind::Comma, tokens)?;
+    if tokens.comes(TokenKind::Comdat) {
         in_comdat_at(tokens)
-    } else if tokens.comes(Head::Align) {
+    } else if tokens.comes(TokenKind::Align) {
         aligned_at(tokens)
     } else {
         attached_at(alloc, tokens)?;
@@ -245,11 +245,11 @@ fn with_align(align: Option<u64>, last: Option<u64>) -> Option<u64>
 
 /// Reads all that follows the initialiser: the last alignment, where one is written.
 #[tactic(auto, unfolding(crate::specs::VariablesAt::tail_at))]
-fn tail_at(alloc: Global, tokens: &mut Tokens) -> Result<Option<u64>, ReadError>
-    ensures { Gives (λ x. (x, tokens.new)) result (tail_at tokens.old) }
+fn tail_at(alloc: Global, tokens: &mut Tokens) -> Result<Option<u64>, ReaderError>
+    ensures { Returns (λ x. (x, tokens.new)) result (tail_at tokens.old) }
 {
     let mut align = None;
-    'each: while tokens.comes(Head::Comma) {
+    'each: while tokens.comes(TokenKind::Comma) {
         let further = further_at(alloc, tokens)?;
         align = with_align(align, further);
     }
@@ -266,11 +266,11 @@ struct Headed {
 }
 
 /// Reads what stands before the shape of a variable.
-fn headed_at(alloc: Global, tokens: &mut Tokens) -> Result<Headed, ReadError>
-    ensures { Gives (λ x. ((x.name, (x.linkage, x.constant)), tokens.new)) result (headed_at tokens.old) }
+fn headed_at(alloc: Global, tokens: &mut Tokens) -> Result<Headed, ReaderError>
+    ensures { Returns (λ x. ((x.name, (x.linkage, x.constant)), tokens.new)) result (headed_at tokens.old) }
 {
     let name = variable_name_at(alloc, tokens)?;
-    expect(Head::Equals, tokens)?;
+    expect(TokenKind::Equals, tokens)?;
     let linkage = linked_at(tokens)?;
     let constant = kind_at(tokens)?;
     Ok(Headed {
@@ -282,8 +282,12 @@ fn headed_at(alloc: Global, tokens: &mut Tokens) -> Result<Headed, ReadError>
 
 /// Reads what stands behind `global` or `constant`: the rest of the variable that is headed so.
 #[tactic(auto, unfolding(crate::specs::VariablesAt::behind_kind_at))]
-fn behind_kind_at(alloc: Global, headed: Headed, tokens: &mut Tokens) -> Result<Variable, ReadError>
-    ensures { Gives (λ x. (items.Variable x, tokens.new)) result (behind_kind_at headed.name headed.linkage headed.constant tokens.old) }
+fn behind_kind_at(
+    alloc: Global,
+    headed: Headed,
+    tokens: &mut Tokens,
+) -> Result<Variable, ReaderError>
+    ensures { Returns (λ x. (items.Variable x, tokens.new)) result (behind_kind_at headed.name headed.linkage headed.constant tokens.old) }
 {
     let typed = shape_at(alloc, tokens)?;
     let init = value_at(
@@ -314,8 +318,8 @@ pub fn variable_line_into(
     alloc: Global,
     items: &mut Vec<Item>,
     tokens: &mut Tokens,
-) -> Result<(), ReadError>
-    ensures { Gives (λ _. (items.new.items, tokens.new)) result (pushed_at items.old.items variable_line_at tokens.old) }
+) -> Result<(), ReaderError>
+    ensures { Returns (λ _. (items.new.items, tokens.new)) result (pushed_at items.old.items variable_line_at tokens.old) }
 {
     let headed = headed_at(alloc, tokens)?;
     let variable = behind_kind_at(alloc, headed, tokens)?;

@@ -3,9 +3,9 @@ use Rattle.std.proofs.Common.{◌≡◌, ℕ, Bool, true, false, ◌&&◌, ◌||
 use Rattle.std.specs.Prelude.{codes}
 use Rattle.std.specs.List.{fold}
 use Rattle.ir_lex.specs.Bytes.{has}
-use Rattle.ir_lex.specs.declared.head.Head.TheVariants as heads
-use Rattle.ir_lex.specs.declared.token.Kind.TheVariants as kinds
-use Rattle.ir_lex.specs.Heads.{number, head_of, word_head, listed_head, words_1}
+use Rattle.ir_lex.specs.declared.token_kind.TokenKind.TheVariants as kinds
+use Rattle.ir_lex.specs.declared.token.TokenForm.TheVariants as forms
+use Rattle.ir_lex.specs.TokenKinds.{number, kind_of, word_kind, listed_kind, words_1}
 use Rattle.ir_lex.specs.Lexing.{is_bad}
 use Rattle.ir_lex.specs.Quotes.{is_zero_name}
 use Rattle.ir_lex.specs.Rows.{begins, best_fit, rest_fit, label_len, number_len, word_len, name_len, meta_len, dots_len, other_len, string_len}
@@ -36,7 +36,7 @@ use Rattle.ir_read.proofs.Singles.{sample, word, not_number, not_limit, the_open
 
 -- ---- of parameters
 
-pub aligned_rule : Rule tokens aligned aligned aligned_at (number heads.Number ∷ number heads.OpenParen ∷ []) [] false
+pub aligned_rule : Rule tokens aligned aligned aligned_at (number kinds.Number ∷ number kinds.OpenParen ∷ []) [] false
 unfolding aligned aligned_at
 aligned_rule = rules.alt tokens NUMBER (rules.seq tokens alignment_rule (λ _. rules.nothing tokens tt) refl) (group_rule Paren) refl refl
 
@@ -49,8 +49,8 @@ parameter_attribute_rule =
 pub parameter_attribute_opens : Opens tokens PARAMETER parameter_attribute
 unfolding parameter_attribute
 parameter_attribute_opens =
-    rules.opens_either tokens PARAMETER_WORD (number heads.ParameterGroup ∷ number heads.Align ∷ []) _ _ (the_opens heads.ParameterWord)
-    (rules.opens_either tokens PARAMETER_GROUP ALIGN _ _ (rules.opens_seq tokens PARAMETER_GROUP (the heads.ParameterGroup) (the_opens heads.ParameterGroup) (λ _. group_rule Paren)) (rules.opens_seq tokens ALIGN (the heads.Align) (the_opens heads.Align) (λ _. aligned_rule)))
+    rules.opens_either tokens PARAMETER_WORD (number kinds.ParameterGroup ∷ number kinds.Align ∷ []) _ _ (the_opens kinds.ParameterWord)
+    (rules.opens_either tokens PARAMETER_GROUP ALIGN _ _ (rules.opens_seq tokens PARAMETER_GROUP (the kinds.ParameterGroup) (the_opens kinds.ParameterGroup) (λ _. group_rule Paren)) (rules.opens_seq tokens ALIGN (the kinds.Align) (the_opens kinds.Align) (λ _. aligned_rule)))
 
 pub parameter_attributes_rule : Rule tokens parameter_attributes parameter_attributes parameter_attributes_at PARAMETER PARAMETER true
 unfolding parameter_attributes parameter_attributes_at
@@ -60,20 +60,20 @@ parameter_attributes_rule = rules.seq tokens (rules.star tokens PARAMETER parame
 
 -- what may stand behind a word
 abbrev pub BEHIND_WORD : List ℕ
-BEHIND_WORD = number heads.OpenParen ∷ number heads.Equals ∷ []
+BEHIND_WORD = number kinds.OpenParen ∷ number kinds.Equals ∷ []
 
 pub word_tail_rule : Rule tokens word_tail word_tail word_tail_at BEHIND_WORD BEHIND_WORD true
 unfolding word_tail word_tail_at
 word_tail_rule = rules.wider tokens _ _ (rules.alt tokens PAREN (group_rule Paren) (rules.alt tokens EQUALS (rules.seq tokens equals_rule (λ _. number_rule) refl) (rules.nothing tokens tt) refl refl) refl refl) refl refl
 
 plain : Tok
-plain = word heads.Word (codes "a")
+plain = word kinds.Word (codes "a")
 
 plain_real : IsReal plain
-unfolding plain best_fit rest_fit label_len number_len word_len name_len meta_len dots_len other_len string_len has is_bad is_zero_name head_of word_head listed_head words_1
+unfolding plain best_fit rest_fit label_len number_len word_len name_len meta_len dots_len other_len string_len has is_bad is_zero_name kind_of word_kind listed_kind words_1
 plain_real = record { behind = []; some = refl; fits = refl; good = refl; class = refl }
 
-pub word_attribute_rule : (words : List ℕ) → contains words (number heads.Word) ≡ true → Rule tokens (word_attribute words) (word_attribute words) (word_attribute_at words) (words ++ []) BEHIND_WORD false
+pub word_attribute_rule : (words : List ℕ) → contains words (number kinds.Word) ≡ true → Rule tokens (word_attribute words) (word_attribute words) (word_attribute_at words) (words ++ []) BEHIND_WORD false
 unfolding word_attribute word_attribute_at plain
 word_attribute_rule words h = rules.seq tokens (one_rule words word_kept plain h plain_real) (λ kept. rules.seq tokens word_tail_rule (λ _. rules.nothing tokens kept) refl) refl
 
@@ -88,20 +88,20 @@ string_attribute_rule : Rule tokens string_attribute string_attribute string_att
 unfolding string_attribute string_attribute_at
 string_attribute_rule = rules.seq tokens string_rule (λ _. string_tail_rule) refl
 
-call_word_rule : Rule tokens (function_attribute CALL_WORDS) (function_attribute CALL_WORDS) (function_attribute_at CALL_WORDS) (number heads.Str ∷ CALL_WORDS) (number heads.Equals ∷ BEHIND_WORD) false
+call_word_rule : Rule tokens (function_attribute CALL_WORDS) (function_attribute CALL_WORDS) (function_attribute_at CALL_WORDS) (number kinds.Str ∷ CALL_WORDS) (number kinds.Equals ∷ BEHIND_WORD) false
 unfolding function_attribute function_attribute_at
 call_word_rule = rules.alt tokens STRING string_attribute_rule (word_attribute_rule CALL_WORDS refl) refl refl
 
-head_word_rule : Rule tokens (function_attribute WORDS) (function_attribute WORDS) (function_attribute_at WORDS) (number heads.Str ∷ WORDS) (number heads.Equals ∷ BEHIND_WORD) false
+head_word_rule : Rule tokens (function_attribute WORDS) (function_attribute WORDS) (function_attribute_at WORDS) (number kinds.Str ∷ WORDS) (number kinds.Equals ∷ BEHIND_WORD) false
 unfolding function_attribute function_attribute_at
 head_word_rule = rules.alt tokens STRING string_attribute_rule (word_attribute_rule WORDS refl) refl refl
 
-pub grouped_attribute_rule : Rule tokens (function_attribute GROUP_WORDS) (function_attribute GROUP_WORDS) (function_attribute_at GROUP_WORDS) (number heads.Str ∷ GROUP_WORDS) (number heads.Equals ∷ BEHIND_WORD) false
+pub grouped_attribute_rule : Rule tokens (function_attribute GROUP_WORDS) (function_attribute GROUP_WORDS) (function_attribute_at GROUP_WORDS) (number kinds.Str ∷ GROUP_WORDS) (number kinds.Equals ∷ BEHIND_WORD) false
 unfolding function_attribute function_attribute_at
 grouped_attribute_rule = rules.alt tokens STRING string_attribute_rule (word_attribute_rule GROUP_WORDS refl) refl refl
 
 abbrev zero_group : Tok
-zero_group = sample kinds.Group heads.Group (codes "#0")
+zero_group = sample forms.Group kinds.Group (codes "#0")
 
 zero_named : group_named zero_group ≡ Some zero_group
 unfolding group_named
@@ -122,7 +122,7 @@ group_name_rule = rules.valued_rule tokens refusal not_number not_limit GROUP gr
 
     within : (t : Tok) → among tokens GROUP t ≡ true → group_named t ≡ None → IsWithin tokens GROUP group_named t
     within t p q =
-        let e : number t.head ≡ number heads.Group = only (number t.head) (number heads.Group) p in
+        let e : number t.kind ≡ number kinds.Group = only (number t.kind) (number kinds.Group) p in
         record { writes = ap (contains NUMERALS) e; other = zero_group; means = zero_group; alike = sym e; has = zero_named; real = group_name_real }
 
 group_attribute_rule : Rule tokens group_attribute group_attribute group_attribute_at GROUP [] false
@@ -131,18 +131,18 @@ group_attribute_rule = rules.seq tokens group_name_rule (λ _. rules.nothing tok
 
 -- ---- behind the arguments of a call
 
-pub call_attribute_rule : Rule tokens call_attribute call_attribute call_attribute_at CALL (number heads.Equals ∷ BEHIND_WORD) false
+pub call_attribute_rule : Rule tokens call_attribute call_attribute call_attribute_at CALL (number kinds.Equals ∷ BEHIND_WORD) false
 unfolding call_attribute call_attribute_at
 call_attribute_rule = rules.alt tokens GROUP group_attribute_rule call_word_rule refl refl
 
-pub call_attributes_rule : Rule tokens call_attributes call_attributes call_attributes_at CALL ((number heads.Equals ∷ BEHIND_WORD) ++ CALL) true
+pub call_attributes_rule : Rule tokens call_attributes call_attributes call_attributes_at CALL ((number kinds.Equals ∷ BEHIND_WORD) ++ CALL) true
 unfolding call_attributes call_attributes_at
 call_attributes_rule = rules.seq tokens (rules.any_number tokens CALL call_attribute_rule refl refl) (λ _. rules.nothing tokens tt) refl
 
 -- ---- behind the head of a function
 
 abbrev BEHIND_ALIGN : List ℕ
-BEHIND_ALIGN = number heads.Number ∷ BEHIND_WORD
+BEHIND_ALIGN = number kinds.Number ∷ BEHIND_WORD
 
 alignment_tail_rule : Rule tokens (form.either (form.◌>>=◌ (form.token is_alignment) (λ _. form.gives tt)) word_tail) (form.either (form.◌>>=◌ (form.token is_alignment) (λ _. form.gives tt)) word_tail) (reader.pick (among tokens NUMBER) (reader.◌>>=◌ (token_at is_alignment) (λ _. reader.done tt)) word_tail_at) BEHIND_ALIGN BEHIND_ALIGN true
 alignment_tail_rule = rules.wider tokens _ _ (rules.alt tokens NUMBER (rules.seq tokens alignment_rule (λ _. rules.nothing tokens tt) refl) word_tail_rule refl refl) refl refl
@@ -153,7 +153,7 @@ head_alignment_rule = rules.seq tokens align_rule (λ _. rules.seq tokens alignm
 
 -- what may stand behind an attribute
 abbrev pub BEHIND_ATTRIBUTE : List ℕ
-BEHIND_ATTRIBUTE = BEHIND_ALIGN ++ number heads.Equals ∷ BEHIND_WORD
+BEHIND_ATTRIBUTE = BEHIND_ALIGN ++ number kinds.Equals ∷ BEHIND_WORD
 
 pub head_attribute_rule : Rule tokens head_attribute head_attribute head_attribute_at HEAD BEHIND_ATTRIBUTE false
 unfolding head_attribute head_attribute_at
@@ -173,11 +173,11 @@ definition_attributes_rule = rules.seq tokens (rules.any_number tokens DEFINITIO
 
 -- ---- groups
 
-grouped_rule : Rule tokens grouped grouped grouped_at GROUPED ((number heads.Equals ∷ BEHIND_WORD) ++ GROUPED) true
+grouped_rule : Rule tokens grouped grouped grouped_at GROUPED ((number kinds.Equals ∷ BEHIND_WORD) ++ GROUPED) true
 unfolding grouped grouped_at
 grouped_rule = rules.seq tokens (rules.any_number tokens GROUPED grouped_attribute_rule refl refl) (λ all. rules.nothing tokens (fold with_attribute none_kept all)) refl
 
-pub attribute_group_rule : Rule tokens attribute_group attribute_group attribute_group_at (number heads.Attributes ∷ []) [] false
+pub attribute_group_rule : Rule tokens attribute_group attribute_group attribute_group_at (number kinds.Attributes ∷ []) [] false
 unfolding attribute_group attribute_group_at
 attribute_group_rule =
     rules.seq tokens attributes_rule (λ _. rules.seq tokens group_name_rule (λ name. rules.seq tokens equals_rule (λ _. rules.seq tokens open_brace_rule (λ _. rules.seq tokens grouped_rule (λ kept. rules.seq tokens close_brace_rule (λ _. rules.nothing tokens (group_item name kept)) refl) refl) refl) refl) refl) refl

@@ -2,9 +2,9 @@
 use Rattle.std.proofs.Common.{◌≡◌, ℕ, Bool, true, false, cond, Option, Some, None, List, [], ◌∷◌, ◌++◌, Result, refl, sym, ap}
 use Rattle.std.specs.Prelude.{codes}
 use Rattle.ir_lex.specs.Bytes.{has}
-use Rattle.ir_lex.specs.declared.head.Head.TheVariants as heads
-use Rattle.ir_lex.specs.declared.token.Kind.TheVariants as kinds
-use Rattle.ir_lex.specs.Heads.{number, head_of, word_head, listed_head, words_6, words_8, global_head, name_head, is_numbered}
+use Rattle.ir_lex.specs.declared.token_kind.TokenKind.TheVariants as kinds
+use Rattle.ir_lex.specs.declared.token.TokenForm.TheVariants as forms
+use Rattle.ir_lex.specs.TokenKinds.{number, kind_of, word_kind, listed_kind, words_6, words_8, global_kind, name_kind, is_numbered}
 use Rattle.ir_lex.specs.Lexing.{is_bad}
 use Rattle.ir_lex.specs.Quotes.{is_zero_name, content, unescaped}
 use Rattle.ir_lex.specs.Rows.{best_fit, rest_fit, label_len, number_len, word_len, name_len, meta_len, dots_len, other_len, string_len}
@@ -36,20 +36,20 @@ use Rattle.ir_read.proofs.Singles.{sample, word, mark, not_number, not_limit, th
 
 -- ---- before the result
 
-pub external_real : IsReal (word heads.External (codes "external"))
-unfolding best_fit rest_fit label_len number_len word_len name_len meta_len dots_len other_len string_len has is_bad is_zero_name head_of word_head listed_head words_8
+pub external_real : IsReal (word kinds.External (codes "external"))
+unfolding best_fit rest_fit label_len number_len word_len name_len meta_len dots_len other_len string_len has is_bad is_zero_name kind_of word_kind listed_kind words_8
 external_real = record { behind = []; some = refl; fits = refl; good = refl; class = refl }
 
-pub hidden_real : IsReal (word heads.Visibility (codes "hidden"))
-unfolding best_fit rest_fit label_len number_len word_len name_len meta_len dots_len other_len string_len has is_bad is_zero_name head_of word_head listed_head words_6
+pub hidden_real : IsReal (word kinds.Visibility (codes "hidden"))
+unfolding best_fit rest_fit label_len number_len word_len name_len meta_len dots_len other_len string_len has is_bad is_zero_name kind_of word_kind listed_kind words_6
 hidden_real = record { behind = []; some = refl; fits = refl; good = refl; class = refl }
 
-is_external : (role : Role) → among tokens (linkages_of role) (word heads.External (codes "external")) ≡ true
+is_external : (role : Role) → among tokens (linkages_of role) (word kinds.External (codes "external")) ≡ true
 is_external roles.Declaration = refl
 is_external roles.Definition = refl
 
 linkage_rule : (role : Role) → Rule tokens (one_of (linkages_of role) linkage_word) (one_of (linkages_of role) linkage_word) (one_of_at (linkages_of role) linkage_word) (linkages_of role) [] false
-linkage_rule role = one_rule (linkages_of role) linkage_word (word heads.External (codes "external")) (is_external role) external_real
+linkage_rule role = one_rule (linkages_of role) linkage_word (word kinds.External (codes "external")) (is_external role) external_real
 
 linking_rule : (role : Role) → Rule tokens (linking role) (linking role) (linking_at role) (linkages_of role ++ []) [] false
 unfolding linking linking_at
@@ -57,7 +57,7 @@ linking_rule role = rules.seq tokens (linkage_rule role) (λ _. rules.nothing to
 
 pub qualifier_rule : Rule tokens (form.either (one_of QUALIFIERS nothing_of) parameter_attribute) (form.either (one_of QUALIFIERS nothing_of) parameter_attribute) qualifier_at QUALIFYING [] false
 unfolding qualifier_at
-qualifier_rule = rules.alt tokens QUALIFIERS (one_rule QUALIFIERS nothing_of (word heads.Visibility (codes "hidden")) refl hidden_real) parameter_attribute_rule refl refl
+qualifier_rule = rules.alt tokens QUALIFIERS (one_rule QUALIFIERS nothing_of (word kinds.Visibility (codes "hidden")) refl hidden_real) parameter_attribute_rule refl refl
 
 qualifying_rule : (linked : Bool) → Rule tokens (qualifying linked) (qualifying linked) (qualifying_at linked) QUALIFYING [] false
 unfolding qualifying qualifying_at
@@ -77,9 +77,9 @@ fewer roles.Definition false = refl
 all_leading_rule : (role : Role) → Rule tokens (Chain at_will (leading role) false) (Chain at_will (leading role) false) (chain_at at_will (begins_leading role) (leading_at role) false) (LEADING role false) (LEADING role false) true
 all_leading_rule role = record {
   law = chain_lawful tokens at_will (begins_leading role) (begins_leading role) (λ _. among tokens []) (among tokens (LEADING role false)) (leading role) (leading role) (leading_at role) (λ s. (leading_rule role s).law) (λ s t u n m. ap (contains (LEADING role s)) (sym m)) (λ s t d e. e)
-      (λ s next front a g t p q. apart_from [] (LEADING role next) refl (number t.head) p q)
-      (λ s t p. within_of [] (LEADING role false) refl (number t.head) p)
-      (λ s t d p. within_of (LEADING role s) (LEADING role false) (fewer role s) (number t.head) p)
+      (λ s next front a g t p q. apart_from [] (LEADING role next) refl (number t.kind) p q)
+      (λ s t p. within_of [] (LEADING role false) refl (number t.kind) p)
+      (λ s t d p. within_of (LEADING role s) (LEADING role false) (fewer role s) (number t.kind) p)
       (λ s. ([], [], (refl, refl), tt)) false;
 }
 
@@ -90,8 +90,8 @@ prefix_rule roles.Definition = rules.broader tokens _ _ (rules.seq tokens (all_l
 
 -- ---- names
 
-pub global_real : IsReal (sample kinds.Global heads.Global (codes "@a"))
-unfolding best_fit rest_fit label_len number_len word_len name_len meta_len dots_len other_len string_len has is_bad is_zero_name head_of global_head name_head content unescaped
+pub global_real : IsReal (sample forms.Global kinds.Global (codes "@a"))
+unfolding best_fit rest_fit label_len number_len word_len name_len meta_len dots_len other_len string_len has is_bad is_zero_name kind_of global_kind name_kind content unescaped
 global_real = record { behind = []; some = refl; fits = refl; good = refl; class = refl }
 
 abbrev by_numbered : Bool → TokenFault → TokenFault
@@ -109,16 +109,16 @@ name_not_limit n e = neither (contains NUMBERED n) (refusal n) Limit (λ x. cc) 
 
 -- what may name a function
 abbrev pub NAMES : List ℕ
-NAMES = number heads.LifetimeMarker ∷ NUMBERED ++ GLOBAL
+NAMES = number kinds.LifetimeMarker ∷ NUMBERED ++ GLOBAL
 
 abbrev is_name : List ℕ → Tok → Result Tok TokenFault
 is_name classes = is_valued tokens name_refusal classes global_named
 
-pub named_rule : (classes : List ℕ) → among tokens classes (sample kinds.Global heads.Global (codes "@a")) ≡ true → Rule tokens (form.token (is_name classes)) (form.token (is_name classes)) (reader.token_at (is_name classes)) classes [] false
-named_rule classes e = rules.valued_rule tokens name_refusal name_not_number name_not_limit classes global_named (λ t p q. global_within classes t.head t refl q) (sample kinds.Global heads.Global (codes "@a")) (sample kinds.Global heads.Global (codes "@a")) e refl global_real
+pub named_rule : (classes : List ℕ) → among tokens classes (sample forms.Global kinds.Global (codes "@a")) ≡ true → Rule tokens (form.token (is_name classes)) (form.token (is_name classes)) (reader.token_at (is_name classes)) classes [] false
+named_rule classes e = rules.valued_rule tokens name_refusal name_not_number name_not_limit classes global_named (λ t p q. global_within classes t.kind t refl q) (sample forms.Global kinds.Global (codes "@a")) (sample forms.Global kinds.Global (codes "@a")) e refl global_real
 
 pub function_name_rule : (role : Role) (l : Linkage) → Rule tokens (function_name role l) (function_name role l) (function_name_at role l) NAMES [] false
-function_name_rule roles.Declaration l = rules.broader tokens NAMES [] (named_rule (number heads.LifetimeMarker ∷ GLOBAL) refl) refl refl
+function_name_rule roles.Declaration l = rules.broader tokens NAMES [] (named_rule (number kinds.LifetimeMarker ∷ GLOBAL) refl) refl refl
 function_name_rule roles.Definition l = by_local (is_local l)
   where
     by_local : (b : Bool) → Rule tokens (form.token (is_name (cond b (NUMBERED ++ GLOBAL) GLOBAL))) (form.token (is_name (cond b (NUMBERED ++ GLOBAL) GLOBAL))) (reader.token_at (is_name (cond b (NUMBERED ++ GLOBAL) GLOBAL))) NAMES [] false
@@ -141,21 +141,21 @@ further_param_rule = rules.seq tokens comma_rule (λ _. param_rule) refl
 
 further_param_opens : Opens tokens COMMA further_param
 unfolding further_param
-further_param_opens = rules.opens_seq tokens COMMA (the heads.Comma) (the_opens heads.Comma) (λ _. param_rule)
+further_param_opens = rules.opens_seq tokens COMMA (the kinds.Comma) (the_opens kinds.Comma) (λ _. param_rule)
 
 some_params_rule : (room : ℕ) → Rule tokens (some_params room) any_some_params (some_params_at room) REG (BEHIND_PARAM ++ COMMA) false
 unfolding some_params any_some_params some_params_at params_behind_at
 some_params_rule room = rules.broader tokens REG (BEHIND_PARAM ++ COMMA) (rules.seq tokens param_rule (λ _. rules.seq tokens (rules.many tokens COMMA room further_param_rule further_param_opens refl refl) (λ _. rules.nothing tokens _) refl) refl) refl refl
 
-end_of_none_rule : Rule tokens end_of_none end_of_none end_of_none_at (number heads.CloseParen ∷ []) [] false
+end_of_none_rule : Rule tokens end_of_none end_of_none end_of_none_at (number kinds.CloseParen ∷ []) [] false
 unfolding is_class
-end_of_none_rule = rules.class_rule tokens type_refusal type_not_number type_not_limit (number heads.CloseParen) (mark heads.CloseParen (codes ")")) refl close_paren_real
+end_of_none_rule = rules.class_rule tokens type_refusal type_not_number type_not_limit (number kinds.CloseParen) (mark kinds.CloseParen (codes ")")) refl close_paren_real
 
-pub listed_params_rule : (room : ℕ) → Rule tokens (listed_params room) any_listed_params (listed_params_at room) (number heads.CloseParen ∷ REG) [] false
+pub listed_params_rule : (room : ℕ) → Rule tokens (listed_params room) any_listed_params (listed_params_at room) (number kinds.CloseParen ∷ REG) [] false
 unfolding listed_params any_listed_params listed_params_at
 listed_params_rule room = rules.broader tokens _ [] (rules.alt tokens REG (rules.seq tokens (some_params_rule room) (λ _. rules.seq tokens close_paren_rule (λ _. rules.nothing tokens _) refl) refl) (rules.seq tokens end_of_none_rule (λ _. rules.nothing tokens _) refl) refl refl) refl refl
 
-pub params_rule : (room : ℕ) → Rule tokens (params room) any_params (params_at room) (number heads.OpenParen ∷ []) [] false
+pub params_rule : (room : ℕ) → Rule tokens (params room) any_params (params_at room) (number kinds.OpenParen ∷ []) [] false
 unfolding params any_params params_at
 params_rule room = rules.seq tokens open_paren_rule (λ _. listed_params_rule room) refl
 

@@ -2,9 +2,9 @@
 -- "Function Attributes", "Attribute Groups").
 use Rattle.std.specs.Prelude.{ℕ, true, false, List, [], ◌∷◌, ◌++◌, map}
 use Rattle.std.specs.List.{fold}
-use Rattle.ir_lex.specs.declared.head.Head.TheVariants as heads
-use Rattle.ir_lex.specs.declared.head.Head.{Head}
-use Rattle.ir_lex.specs.Heads.{number}
+use Rattle.ir_lex.specs.declared.token_kind.TokenKind.TheVariants as kinds
+use Rattle.ir_lex.specs.declared.token_kind.TokenKind.{TokenKind}
+use Rattle.ir_lex.specs.TokenKinds.{number}
 use Rattle.ir_lex.specs.Tok.{Tok}
 use Rattle.ir_read.specs.Forms.{Form, ◌>>=◌, either, gives, optional, Star, token}
 use Rattle.ir_read.specs.Rules.{is_valued}
@@ -16,8 +16,8 @@ use Rattle.ir_read.specs.Operands.{group_named}
 use Rattle.ir_heads.specs.declared.attributes.Attribute.{Attribute}
 use Rattle.ir_heads.specs.declared.attributes.Attribute.TheVariants.{Dropped, Noinline, Optnone, Group}
 use Rattle.ir_heads.specs.declared.attributes.Kept.{Kept}
-use Rattle.ir_heads.specs.declared.attributes.Place.{Place}
-use Rattle.ir_heads.specs.declared.attributes.Place.TheVariants as places
+use Rattle.ir_heads.specs.declared.attributes.AttributePlace.{AttributePlace}
+use Rattle.ir_heads.specs.declared.attributes.AttributePlace.TheVariants as places
 use Rattle.ir_read.specs.declared.raw.Item.{Item}
 use Rattle.ir_read.specs.declared.raw.Item.TheVariants.{Attributes}
 use Rattle.ir_read.specs.declared.brackets.Bracket.TheVariants.{Paren}
@@ -35,13 +35,13 @@ aligned = either
 -- pattr = word / word (..) / align N / align (..)
 unfoldable pub parameter_attribute : Form Tok (Unit {0})
 parameter_attribute = either
-    (the heads.ParameterWord)
+    (the kinds.ParameterWord)
     (either
     (do
-      _ ← the heads.ParameterGroup
+      _ ← the kinds.ParameterGroup
       group Paren)
     (do
-      _ ← the heads.Align
+      _ ← the kinds.Align
       aligned))
 
 unfoldable pub parameter_attributes : Form Tok (Unit {0})
@@ -52,41 +52,41 @@ parameter_attributes = do
 -- ---- of functions and calls
 
 -- words that begin no item, no instruction and no terminator, and belong to no part of the language that is left out
-abbrev pub OTHER_WORDS : List Head
+abbrev pub OTHER_WORDS : List TokenKind
 OTHER_WORDS =
-    heads.MemoryInteger ∷ heads.RegisterInteger ∷ heads.Ptr ∷ heads.Void ∷ heads.RefusedType
-    ∷ heads.Datalayout ∷ heads.Triple ∷ heads.Type ∷ heads.Opaque ∷ heads.Comdat ∷ heads.Any ∷ heads.GlobalVariable ∷ heads.Constant
-    ∷ heads.Private ∷ heads.Internal ∷ heads.External ∷ heads.Linkonce ∷ heads.LinkonceOdr ∷ heads.Weak ∷ heads.WeakOdr ∷ heads.AvailableExternally
-    ∷ heads.Visibility ∷ heads.UnnamedAddr ∷ heads.CallingConvention ∷ heads.ZeroInitializer ∷ heads.Times ∷ heads.True ∷ heads.False ∷ heads.Null ∷ heads.Poison
-    ∷ heads.Inbounds ∷ heads.Nusw ∷ heads.Nuw ∷ heads.Nsw ∷ heads.Exact ∷ heads.Disjoint ∷ heads.Samesign ∷ heads.Nneg
-    ∷ heads.Eq ∷ heads.Ne ∷ heads.Ugt ∷ heads.Uge ∷ heads.Ult ∷ heads.Ule ∷ heads.Sgt ∷ heads.Sge ∷ heads.Slt ∷ heads.Sle ∷ heads.To ∷ heads.LabelType
-    ∷ heads.ParameterWord ∷ heads.ParameterGroup ∷ heads.Noinline ∷ heads.Optnone ∷ []
+    kinds.MemoryInteger ∷ kinds.RegisterInteger ∷ kinds.Ptr ∷ kinds.Void ∷ kinds.RefusedType
+    ∷ kinds.Datalayout ∷ kinds.Triple ∷ kinds.Type ∷ kinds.Opaque ∷ kinds.Comdat ∷ kinds.Any ∷ kinds.GlobalVariable ∷ kinds.Constant
+    ∷ kinds.Private ∷ kinds.Internal ∷ kinds.External ∷ kinds.Linkonce ∷ kinds.LinkonceOdr ∷ kinds.Weak ∷ kinds.WeakOdr ∷ kinds.AvailableExternally
+    ∷ kinds.Visibility ∷ kinds.UnnamedAddr ∷ kinds.CallingConvention ∷ kinds.ZeroInitializer ∷ kinds.Times ∷ kinds.True ∷ kinds.False ∷ kinds.Null ∷ kinds.Poison
+    ∷ kinds.Inbounds ∷ kinds.Nusw ∷ kinds.Nuw ∷ kinds.Nsw ∷ kinds.Exact ∷ kinds.Disjoint ∷ kinds.Samesign ∷ kinds.Nneg
+    ∷ kinds.Eq ∷ kinds.Ne ∷ kinds.Ugt ∷ kinds.Uge ∷ kinds.Ult ∷ kinds.Ule ∷ kinds.Sgt ∷ kinds.Sge ∷ kinds.Slt ∷ kinds.Sle ∷ kinds.To ∷ kinds.LabelType
+    ∷ kinds.ParameterWord ∷ kinds.ParameterGroup ∷ kinds.Noinline ∷ kinds.Optnone ∷ []
 
 abbrev pub WORDS : List ℕ
-WORDS = map number (heads.Word ∷ OTHER_WORDS)
+WORDS = map number (kinds.Word ∷ OTHER_WORDS)
 
 -- behind a call an `align` is a word like others
 abbrev pub CALL_WORDS : List ℕ
-CALL_WORDS = number heads.Align ∷ WORDS
+CALL_WORDS = number kinds.Align ∷ WORDS
 
 -- in a group words that are refused elsewhere are dropped
 abbrev pub GROUP_WORDS : List ℕ
-GROUP_WORDS = number heads.RefusedWord ∷ number heads.RefusedInteger ∷ CALL_WORDS
+GROUP_WORDS = number kinds.RefusedWord ∷ number kinds.RefusedInteger ∷ CALL_WORDS
 
 -- the words that are attributes there
-abbrev pub words_of : Place → List ℕ
+abbrev pub words_of : AttributePlace → List ℕ
 words_of places.Head = WORDS
 words_of places.Call = CALL_WORDS
 words_of places.Group = GROUP_WORDS
 
 -- what is kept of an attribute that is one word
-abbrev pub kept_of : Head → Attribute
-kept_of heads.Noinline = Noinline
-kept_of heads.Optnone = Optnone
+abbrev pub kept_of : TokenKind → Attribute
+kept_of kinds.Noinline = Noinline
+kept_of kinds.Optnone = Optnone
 kept_of h = Dropped
 
 abbrev pub word_kept : Tok → Attribute
-word_kept t = kept_of t.head
+word_kept t = kept_of t.kind
 
 -- [(..)] / [= Number]
 unfoldable pub word_tail : Form Tok (Unit {0})
@@ -94,8 +94,8 @@ word_tail = either
     (group Paren)
     (either
     (do
-      _ ← the heads.Equals
-      the heads.Number)
+      _ ← the kinds.Equals
+      the kinds.Number)
     (gives tt))
 
 -- Word [(..)] / Word = Number
@@ -108,13 +108,13 @@ word_attribute words = do
 -- = Str
 unfoldable pub string_value : Form Tok (Unit {0})
 string_value = do
-  _ ← the heads.Equals
-  the heads.Str
+  _ ← the kinds.Equals
+  the kinds.Str
 
 -- Str [= Str]
 unfoldable pub string_attribute : Form Tok Attribute
 string_attribute = do
-  _ ← the heads.Str
+  _ ← the kinds.Str
   _ ← optional string_value
   gives Dropped
 
@@ -122,7 +122,7 @@ unfoldable pub function_attribute : List ℕ → Form Tok Attribute
 function_attribute words = either string_attribute (word_attribute words)
 
 abbrev pub GROUP : List ℕ
-GROUP = number heads.Group ∷ []
+GROUP = number kinds.Group ∷ []
 
 -- the name of an attribute group, whose number is below 2^32
 abbrev pub group_name : Form Tok Tok
@@ -147,7 +147,7 @@ call_attributes = do
 -- align N / align [(..)] / align = Number
 unfoldable pub head_alignment : Form Tok Attribute
 head_alignment = do
-  _ ← the heads.Align
+  _ ← the kinds.Align
   _ ← either
       (do
         _ ← token is_alignment
@@ -196,10 +196,10 @@ grouped = do
 
 unfoldable pub attribute_group : Form Tok Item
 attribute_group = do
-  _ ← the heads.Attributes
+  _ ← the kinds.Attributes
   name ← group_name
-  _ ← the heads.Equals
-  _ ← the heads.OpenBrace
+  _ ← the kinds.Equals
+  _ ← the kinds.OpenBrace
   kept ← grouped
-  _ ← the heads.CloseBrace
+  _ ← the kinds.CloseBrace
   gives (group_item name kept)

@@ -1,8 +1,8 @@
 -- What the readers of attributes give.
 use Rattle.std.specs.Prelude.{ℕ, List, [], ◌∷◌}
 use Rattle.std.specs.List.{fold}
-use Rattle.ir_lex.specs.declared.head.Head.TheVariants as heads
-use Rattle.ir_lex.specs.Heads.{number}
+use Rattle.ir_lex.specs.declared.token_kind.TokenKind.TheVariants as kinds
+use Rattle.ir_lex.specs.TokenKinds.{number}
 use Rattle.ir_lex.specs.Tok.{Tok}
 use Rattle.ir_read.specs.Alphabet.{among}
 use Rattle.ir_read.specs.Readers.{Reader, ◌>>=◌, done, pick, star_at, optional_at, token_at}
@@ -21,37 +21,37 @@ use Rattle.ir_read.specs.declared.raw.Item.{Item}
 use Rattle.ir_read.specs.declared.brackets.Bracket.TheVariants.{Paren}
 
 abbrev pub NUMBER : List ℕ
-NUMBER = number heads.Number ∷ []
+NUMBER = number kinds.Number ∷ []
 
 abbrev pub EQUALS : List ℕ
-EQUALS = number heads.Equals ∷ []
+EQUALS = number kinds.Equals ∷ []
 
 abbrev pub STRING : List ℕ
-STRING = number heads.Str ∷ []
+STRING = number kinds.Str ∷ []
 
 abbrev pub ALIGN : List ℕ
-ALIGN = number heads.Align ∷ []
+ALIGN = number kinds.Align ∷ []
 
 abbrev pub PARAMETER_WORD : List ℕ
-PARAMETER_WORD = number heads.ParameterWord ∷ []
+PARAMETER_WORD = number kinds.ParameterWord ∷ []
 
 abbrev pub PARAMETER_GROUP : List ℕ
-PARAMETER_GROUP = number heads.ParameterGroup ∷ []
+PARAMETER_GROUP = number kinds.ParameterGroup ∷ []
 
 -- what an attribute of a parameter begins with
 abbrev pub PARAMETER : List ℕ
-PARAMETER = number heads.ParameterWord ∷ number heads.ParameterGroup ∷ number heads.Align ∷ []
+PARAMETER = number kinds.ParameterWord ∷ number kinds.ParameterGroup ∷ number kinds.Align ∷ []
 
 -- what stands behind the arguments of a call begins with
 abbrev pub CALL : List ℕ
-CALL = number heads.Group ∷ number heads.Str ∷ CALL_WORDS
+CALL = number kinds.Group ∷ number kinds.Str ∷ CALL_WORDS
 
 -- what stands behind the head of a function begins with
 abbrev pub HEAD : List ℕ
-HEAD = number heads.Group ∷ number heads.Align ∷ number heads.Str ∷ WORDS
+HEAD = number kinds.Group ∷ number kinds.Align ∷ number kinds.Str ∷ WORDS
 
 abbrev pub DEFINITION : List ℕ
-DEFINITION = number heads.Meta ∷ number heads.Bang ∷ HEAD
+DEFINITION = number kinds.Meta ∷ number kinds.Bang ∷ HEAD
 
 unfoldable pub aligned_at : Reader Tok (Unit {0})
 aligned_at = pick (among tokens NUMBER)
@@ -62,13 +62,13 @@ aligned_at = pick (among tokens NUMBER)
 
 unfoldable pub parameter_attribute_at : Reader Tok (Unit {0})
 parameter_attribute_at = pick (among tokens PARAMETER_WORD)
-    (the_at heads.ParameterWord)
+    (the_at kinds.ParameterWord)
     (pick (among tokens PARAMETER_GROUP)
     (do
-      _ ← the_at heads.ParameterGroup
+      _ ← the_at kinds.ParameterGroup
       group_at Paren)
     (do
-      _ ← the_at heads.Align
+      _ ← the_at kinds.Align
       aligned_at))
 
 unfoldable pub parameter_attributes_at : Reader Tok (Unit {0})
@@ -81,8 +81,8 @@ word_tail_at = pick (among tokens PAREN)
     (group_at Paren)
     (pick (among tokens EQUALS)
     (do
-      _ ← the_at heads.Equals
-      the_at heads.Number)
+      _ ← the_at kinds.Equals
+      the_at kinds.Number)
     (done tt))
 
 unfoldable pub word_attribute_at : List ℕ → Reader Tok Attribute
@@ -93,12 +93,12 @@ word_attribute_at words = do
 
 unfoldable pub string_value_at : Reader Tok (Unit {0})
 string_value_at = do
-  _ ← the_at heads.Equals
-  the_at heads.Str
+  _ ← the_at kinds.Equals
+  the_at kinds.Str
 
 unfoldable pub string_attribute_at : Reader Tok Attribute
 string_attribute_at = do
-  _ ← the_at heads.Str
+  _ ← the_at kinds.Str
   _ ← optional_at (among tokens EQUALS) string_value_at
   done Dropped
 
@@ -123,7 +123,7 @@ call_attributes_at = do
 
 unfoldable pub head_alignment_at : Reader Tok Attribute
 head_alignment_at = do
-  _ ← the_at heads.Align
+  _ ← the_at kinds.Align
   _ ← pick (among tokens NUMBER)
       (do
         _ ← token_at is_alignment
@@ -149,7 +149,7 @@ definition_attributes_at = do
 
 -- what an attribute of a group begins with
 abbrev pub GROUPED : List ℕ
-GROUPED = number heads.Str ∷ GROUP_WORDS
+GROUPED = number kinds.Str ∷ GROUP_WORDS
 
 -- what all attributes of a group say, up to what closes it
 unfoldable pub grouped_at : Reader Tok Kept
@@ -160,23 +160,23 @@ grouped_at = do
 -- behind the attributes of a group
 abbrev pub ended_group_at : Tok → Kept → Reader Tok Item
 ended_group_at name kept = do
-  _ ← the_at heads.CloseBrace
+  _ ← the_at kinds.CloseBrace
   done (group_item name kept)
 
 -- behind the name of a group
 abbrev pub named_group_at : Tok → Reader Tok Item
 named_group_at name = do
-  _ ← the_at heads.Equals
-  _ ← the_at heads.OpenBrace
+  _ ← the_at kinds.Equals
+  _ ← the_at kinds.OpenBrace
   kept ← grouped_at
   ended_group_at name kept
 
 unfoldable pub attribute_group_at : Reader Tok Item
 attribute_group_at = do
-  _ ← the_at heads.Attributes
+  _ ← the_at kinds.Attributes
   name ← group_name_at
-  _ ← the_at heads.Equals
-  _ ← the_at heads.OpenBrace
+  _ ← the_at kinds.Equals
+  _ ← the_at kinds.OpenBrace
   kept ← grouped_at
-  _ ← the_at heads.CloseBrace
+  _ ← the_at kinds.CloseBrace
   done (group_item name kept)

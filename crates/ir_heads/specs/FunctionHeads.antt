@@ -2,9 +2,9 @@
 -- "Linkage Types").
 use Rattle.std.specs.Prelude.{ℕ, Bool, true, false, if◌then◌else◌, nat_eq, ◌||◌, Option, Some, None, List, [], ◌∷◌, ◌++◌, map}
 use Rattle.std.specs.List.{fold}
-use Rattle.ir_lex.specs.declared.head.Head.TheVariants as heads
-use Rattle.ir_lex.specs.declared.head.Head as class
-use Rattle.ir_lex.specs.Heads.{number}
+use Rattle.ir_lex.specs.declared.token_kind.TokenKind.TheVariants as kinds
+use Rattle.ir_lex.specs.declared.token_kind.TokenKind as class
+use Rattle.ir_lex.specs.TokenKinds.{number}
 use Rattle.ir_lex.specs.Tok.{Tok}
 use Rattle.ir_tree.specs.declared.function.Linkage.{Linkage}
 use Rattle.ir_tree.specs.declared.function.Linkage.TheVariants as linkages
@@ -21,35 +21,35 @@ use Rattle.ir_read.specs.Classes.{tokens, refusal, the, one_of}
 use Rattle.ir_read.specs.Operands.{reg, result, local, global_named, type_refusal}
 use Rattle.ir_heads.specs.declared.function_heads.Role.{Role}
 use Rattle.ir_heads.specs.declared.function_heads.Role.TheVariants as roles
-use Rattle.ir_read.specs.declared.raw.Head.{Head}
+use Rattle.ir_read.specs.declared.raw.FunctionHeader.{FunctionHeader}
 use Rattle.ir_read.specs.declared.raw.Param.{Param}
 
 -- ---- before the result
 
 abbrev pub LINKAGES : List ℕ
-LINKAGES = number heads.Private ∷ number heads.Internal ∷ number heads.External ∷ number heads.Linkonce ∷ number heads.LinkonceOdr ∷ number heads.Weak ∷ number heads.WeakOdr ∷ number heads.AvailableExternally ∷ []
+LINKAGES = number kinds.Private ∷ number kinds.Internal ∷ number kinds.External ∷ number kinds.Linkonce ∷ number kinds.LinkonceOdr ∷ number kinds.Weak ∷ number kinds.WeakOdr ∷ number kinds.AvailableExternally ∷ []
 
 -- what is only declared is external
 abbrev pub linkages_of : Role → List ℕ
-linkages_of roles.Declaration = number heads.External ∷ []
+linkages_of roles.Declaration = number kinds.External ∷ []
 linkages_of roles.Definition = LINKAGES
 
-abbrev pub linkage_by : class.Head → Linkage
-linkage_by heads.Private = linkages.Private
-linkage_by heads.Internal = linkages.Internal
-linkage_by heads.Linkonce = linkages.Linkonce
-linkage_by heads.LinkonceOdr = linkages.LinkonceOdr
-linkage_by heads.Weak = linkages.Weak
-linkage_by heads.WeakOdr = linkages.WeakOdr
-linkage_by heads.AvailableExternally = linkages.AvailableExternally
+abbrev pub linkage_by : class.TokenKind → Linkage
+linkage_by kinds.Private = linkages.Private
+linkage_by kinds.Internal = linkages.Internal
+linkage_by kinds.Linkonce = linkages.Linkonce
+linkage_by kinds.LinkonceOdr = linkages.LinkonceOdr
+linkage_by kinds.Weak = linkages.Weak
+linkage_by kinds.WeakOdr = linkages.WeakOdr
+linkage_by kinds.AvailableExternally = linkages.AvailableExternally
 linkage_by h = linkages.External
 
 abbrev pub linkage_word : Tok → Linkage
-linkage_word t = linkage_by t.head
+linkage_word t = linkage_by t.kind
 
 -- words of visibility, of addresses and of calling conventions, which are dropped
 abbrev pub QUALIFIERS : List ℕ
-QUALIFIERS = number heads.Visibility ∷ number heads.UnnamedAddr ∷ number heads.CallingConvention ∷ []
+QUALIFIERS = number kinds.Visibility ∷ number kinds.UnnamedAddr ∷ number kinds.CallingConvention ∷ []
 
 abbrev pub nothing_of : Tok → Unit {0}
 nothing_of t = tt
@@ -91,14 +91,14 @@ is_local linkages.Internal = true
 is_local l = false
 
 abbrev pub GLOBAL : List ℕ
-GLOBAL = number heads.Global ∷ []
+GLOBAL = number kinds.Global ∷ []
 
 abbrev pub NUMBERED : List ℕ
-NUMBERED = number heads.NumberedGlobal ∷ number heads.NumberedDefinition ∷ []
+NUMBERED = number kinds.NumberedGlobal ∷ number kinds.NumberedDefinition ∷ []
 
 -- a lifetime marker is only declared, and a name that is a number is local
 abbrev pub names_of : Role → Linkage → List ℕ
-names_of roles.Declaration l = number heads.LifetimeMarker ∷ GLOBAL
+names_of roles.Declaration l = number kinds.LifetimeMarker ∷ GLOBAL
 names_of roles.Definition l = if is_local l then NUMBERED ++ GLOBAL else GLOBAL
 
 abbrev pub name_refusal : ℕ → TokenFault
@@ -120,7 +120,7 @@ param = do
 -- , param
 unfoldable pub further_param : Form Tok Param
 further_param = do
-  _ ← the heads.Comma
+  _ ← the kinds.Comma
   param
 
 -- param {, param}, so many at most behind the first
@@ -132,14 +132,14 @@ some_params room = do
 
 -- ) where a type may stand
 abbrev pub end_of_none : Form Tok (Unit {0})
-end_of_none = token (is_class tokens type_refusal (number heads.CloseParen))
+end_of_none = token (is_class tokens type_refusal (number kinds.CloseParen))
 
 -- what stands in brackets, and what closes them
 unfoldable pub listed_params : ℕ → Form Tok (List Param)
 listed_params room = either
     (do
       ps ← some_params room
-      _ ← the heads.CloseParen
+      _ ← the kinds.CloseParen
       gives ps)
     (do
       _ ← end_of_none
@@ -148,7 +148,7 @@ listed_params room = either
 -- ( [param {, param}] )
 unfoldable pub params : ℕ → Form Tok (List Param)
 params room = do
-  _ ← the heads.OpenParen
+  _ ← the kinds.OpenParen
   listed_params room
 
 -- the same without a limit on how many
@@ -162,7 +162,7 @@ unfoldable pub any_listed_params : Form Tok (List Param)
 any_listed_params = either
     (do
       ps ← any_some_params
-      _ ← the heads.CloseParen
+      _ ← the kinds.CloseParen
       gives ps)
     (do
       _ ← end_of_none
@@ -170,16 +170,16 @@ any_listed_params = either
 
 unfoldable pub any_params : Form Tok (List Param)
 any_params = do
-  _ ← the heads.OpenParen
+  _ ← the kinds.OpenParen
   any_listed_params
 
 -- ---- heads
 
-abbrev pub head_of : Linkage → Option Reg → Tok → List Param → Head
+abbrev pub head_of : Linkage → Option Reg → Tok → List Param → FunctionHeader
 head_of l r name ps = record { linkage = l; result = r; name = name; params = ps; noinline = false; optnone = false; groups = [] }
 
 -- {linkage / drop / pattr} result Global ( [param {, param}] )
-unfoldable pub head : Role → ℕ → Form Tok Head
+unfoldable pub head : Role → ℕ → Form Tok FunctionHeader
 head role room = do
   l ← prefix role
   r ← result
@@ -187,7 +187,7 @@ head role room = do
   ps ← params room
   gives (head_of l r name ps)
 
-unfoldable pub any_head : Role → Form Tok Head
+unfoldable pub any_head : Role → Form Tok FunctionHeader
 any_head role = do
   l ← prefix role
   r ← result

@@ -1,8 +1,8 @@
 -- What the readers of heads of functions give.
 use Rattle.std.specs.Prelude.{ℕ, Bool, true, false, Option, Some, None, List, [], ◌∷◌, ◌++◌}
 use Rattle.std.specs.List.{fold}
-use Rattle.ir_lex.specs.declared.head.Head.TheVariants as heads
-use Rattle.ir_lex.specs.Heads.{number}
+use Rattle.ir_lex.specs.declared.token_kind.TokenKind.TheVariants as kinds
+use Rattle.ir_lex.specs.TokenKinds.{number}
 use Rattle.ir_lex.specs.Tok.{Tok}
 use Rattle.ir_tree.specs.declared.function.Linkage.{Linkage}
 use Rattle.ir_tree.specs.declared.function.Linkage.TheVariants as linkages
@@ -17,7 +17,7 @@ use Rattle.ir_read.specs.MetadataAt.{COMMA}
 use Rattle.ir_read.specs.Operands.{REG, LOCAL, global_named, type_refusal}
 use Rattle.ir_read.specs.OperandsAt.{reg_at, result_at, local_at}
 use Rattle.ir_heads.specs.declared.function_heads.Role.{Role}
-use Rattle.ir_read.specs.declared.raw.Head.{Head}
+use Rattle.ir_read.specs.declared.raw.FunctionHeader.{FunctionHeader}
 use Rattle.ir_read.specs.declared.raw.Param.{Param}
 
 abbrev pub QUALIFYING : List ℕ
@@ -65,7 +65,7 @@ param_at = do
 
 unfoldable pub further_param_at : Reader Tok Param
 further_param_at = do
-  _ ← the_at heads.Comma
+  _ ← the_at kinds.Comma
   param_at
 
 -- those behind some
@@ -80,13 +80,13 @@ some_params_at room = do
   params_behind_at room (first ∷ [])
 
 abbrev pub end_of_none_at : Reader Tok (Unit {0})
-end_of_none_at = token_at (is_class tokens type_refusal (number heads.CloseParen))
+end_of_none_at = token_at (is_class tokens type_refusal (number kinds.CloseParen))
 
 unfoldable pub listed_params_at : ℕ → Reader Tok (List Param)
 listed_params_at room = pick (among tokens REG)
     (do
       ps ← some_params_at room
-      _ ← the_at heads.CloseParen
+      _ ← the_at kinds.CloseParen
       done ps)
     (do
       _ ← end_of_none_at
@@ -94,10 +94,10 @@ listed_params_at room = pick (among tokens REG)
 
 unfoldable pub params_at : ℕ → Reader Tok (List Param)
 params_at room = do
-  _ ← the_at heads.OpenParen
+  _ ← the_at kinds.OpenParen
   listed_params_at room
 
-unfoldable pub head_at : Role → ℕ → Reader Tok Head
+unfoldable pub head_at : Role → ℕ → Reader Tok FunctionHeader
 head_at role room = do
   l ← prefix_at role
   r ← result_at

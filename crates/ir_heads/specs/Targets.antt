@@ -2,8 +2,8 @@
 -- "Comdats").
 use Rattle.std.specs.Prelude.{ℕ, Bool, true, false, ◌&&◌, nat_eq, if◌then◌else◌, Option, Some, None, Result, Ok, Err, List, [], ◌∷◌, drop, codes}
 use Rattle.std.specs.Str.{bytes_eq}
-use Rattle.ir_lex.specs.declared.head.Head.TheVariants as heads
-use Rattle.ir_lex.specs.Heads.{number, begins_with}
+use Rattle.ir_lex.specs.declared.token_kind.TokenKind.TheVariants as kinds
+use Rattle.ir_lex.specs.TokenKinds.{number, begins_with}
 use Rattle.ir_lex.specs.Quotes.{content}
 use Rattle.ir_lex.specs.Tok.{Tok}
 use Rattle.ir_read.specs.declared.fault.TokenFault.{TokenFault}
@@ -55,44 +55,44 @@ fits_layout text = all_fit (split_at 45 text)
 
 -- a string that is a layout that is supported; another string is refused as a part of the language that isn't read
 unfoldable pub is_layout : Tok → Result Tok TokenFault
-is_layout t = if nat_eq (number t.head) (number heads.Str) then (if fits_layout (content t.kind t.text) then Ok t else Err Profile) else Err (refusal (number t.head))
+is_layout t = if nat_eq (number t.kind) (number kinds.Str) then (if fits_layout (content t.form t.text) then Ok t else Err Profile) else Err (refusal (number t.kind))
 
 -- ---- lines
 
 abbrev pub STRING : List ℕ
-STRING = number heads.Str ∷ []
+STRING = number kinds.Str ∷ []
 
 unfoldable pub layout_line : Form Tok Item
 layout_line = do
-  _ ← the heads.Datalayout
-  _ ← the heads.Equals
+  _ ← the kinds.Datalayout
+  _ ← the kinds.Equals
   layout ← token is_layout
   gives (Datalayout layout)
 
 unfoldable pub triple_line : Form Tok Item
 triple_line = do
-  _ ← the heads.Triple
-  _ ← the heads.Equals
+  _ ← the kinds.Triple
+  _ ← the kinds.Equals
   triple ← one_of STRING itself
   gives (Triple triple)
 
 -- target datalayout = Str / target triple = Str
 unfoldable pub target_line : Form Tok Item
 target_line = do
-  _ ← the heads.Target
+  _ ← the kinds.Target
   either layout_line triple_line
 
 -- source_filename = Str
 unfoldable pub source_line : Form Tok (Unit {0})
 source_line = do
-  _ ← the heads.SourceFilename
-  _ ← the heads.Equals
-  the heads.Str
+  _ ← the kinds.SourceFilename
+  _ ← the kinds.Equals
+  the kinds.Str
 
 -- Comdat = comdat any
 unfoldable pub comdat_line : Form Tok (Unit {0})
 comdat_line = do
-  _ ← the heads.ComdatName
-  _ ← the heads.Equals
-  _ ← the heads.Comdat
-  the heads.Any
+  _ ← the kinds.ComdatName
+  _ ← the kinds.Equals
+  _ ← the kinds.Comdat
+  the kinds.Any

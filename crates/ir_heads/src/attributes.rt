@@ -2,10 +2,10 @@
 //! "Parameter Attributes", "Function Attributes", "Attribute Groups").
 
 ghost use Rattle.std.specs.Prelude.{◌≡◌, IfOk};
-ghost use Rattle.ir_lex.specs.Heads.{number};
+ghost use Rattle.ir_lex.specs.TokenKinds.{number};
 ghost use Rattle.ir_lex.specs.Tok.{tok};
 ghost use Rattle.ir_read.specs.Alphabet.{contains, among};
-ghost use Rattle.ir_read.specs.Readers.{Gives, next_is};
+ghost use Rattle.ir_read.specs.Readers.{Returns, next_is};
 ghost use Rattle.ir_read.specs.Rules.{is_valued};
 ghost use Rattle.ir_heads.specs.Attributes.{WORDS, GROUP, words_of, kept_of, word_kept, none_kept, with_attribute, group_item};
 ghost use Rattle.ir_heads.specs.AttributesAt.{PARAMETER, CALL, DEFINITION, GROUPED, head_alignment_at, head_attribute_at, definition_attribute_at, definition_attributes_at, grouped_at, ended_group_at, named_group_at, attribute_group_at, aligned_at, parameter_attribute_at, parameter_attributes_at, word_tail_at, word_attribute_at, string_value_at, string_attribute_at, function_attribute_at, group_name_at, group_attribute_at, call_attribute_at, call_attributes_at};
@@ -13,9 +13,9 @@ ghost use Rattle.ir_read.specs.Classes.{tokens, refusal, one_of_at};
 ghost use Rattle.ir_read.specs.Metadata.{META};
 ghost use Rattle.ir_read.specs.Operands.{group_named};
 
-use ir_lex::{Head, Token};
+use ir_lex::{Token, TokenKind};
 use ir_read::{
-    Bracket, Fault, Item, Name, ReadError, TokenFault, Tokens, alignment_at, attached_at, done,
+    Bracket, Fault, Item, Name, ReaderError, TokenFault, Tokens, alignment_at, attached_at, done,
     expect, group_at, group_named, refusal,
 };
 use ir_tree::Rows;
@@ -42,7 +42,7 @@ pub struct Kept {
 
 /// Where an attribute that is one word stands.
 #[derive(Clone, Copy)]
-pub enum Place {
+pub enum AttributePlace {
     /// Behind the head of a function.
     Head,
     /// Behind the arguments of a call.
@@ -51,101 +51,101 @@ pub enum Place {
     Group,
 }
 
-/// Whether a word of this class begins no item, no instruction and no terminator.
-pub fn is_attribute_word(head: Head) -> bool
+/// Whether a word of this kind begins no item, no instruction and no terminator.
+pub fn is_attribute_word(head: TokenKind) -> bool
     ensures { result ≡ contains WORDS (number head) }
 {
     matches!(
         head,
-        Head::Word
-            | Head::MemoryInteger
-            | Head::RegisterInteger
-            | Head::Ptr
-            | Head::Void
-            | Head::RefusedType
-            | Head::Datalayout
-            | Head::Triple
-            | Head::Type
-            | Head::Opaque
-            | Head::Comdat
-            | Head::Any
-            | Head::GlobalVariable
-            | Head::Constant
-            | Head::Private
-            | Head::Internal
-            | Head::External
-            | Head::Linkonce
-            | Head::LinkonceOdr
-            | Head::Weak
-            | Head::WeakOdr
-            | Head::AvailableExternally
-            | Head::Visibility
-            | Head::UnnamedAddr
-            | Head::CallingConvention
-            | Head::ZeroInitializer
-            | Head::Times
-            | Head::True
-            | Head::False
-            | Head::Null
-            | Head::Poison
-            | Head::Inbounds
-            | Head::Nusw
-            | Head::Nuw
-            | Head::Nsw
-            | Head::Exact
-            | Head::Disjoint
-            | Head::Samesign
-            | Head::Nneg
-            | Head::Eq
-            | Head::Ne
-            | Head::Ugt
-            | Head::Uge
-            | Head::Ult
-            | Head::Ule
-            | Head::Sgt
-            | Head::Sge
-            | Head::Slt
-            | Head::Sle
-            | Head::To
-            | Head::LabelType
-            | Head::ParameterWord
-            | Head::ParameterGroup
-            | Head::Noinline
-            | Head::Optnone
+        TokenKind::Word
+            | TokenKind::MemoryInteger
+            | TokenKind::RegisterInteger
+            | TokenKind::Ptr
+            | TokenKind::Void
+            | TokenKind::RefusedType
+            | TokenKind::Datalayout
+            | TokenKind::Triple
+            | TokenKind::Type
+            | TokenKind::Opaque
+            | TokenKind::Comdat
+            | TokenKind::Any
+            | TokenKind::GlobalVariable
+            | TokenKind::Constant
+            | TokenKind::Private
+            | TokenKind::Internal
+            | TokenKind::External
+            | TokenKind::Linkonce
+            | TokenKind::LinkonceOdr
+            | TokenKind::Weak
+            | TokenKind::WeakOdr
+            | TokenKind::AvailableExternally
+            | TokenKind::Visibility
+            | TokenKind::UnnamedAddr
+            | TokenKind::CallingConvention
+            | TokenKind::ZeroInitializer
+            | TokenKind::Times
+            | TokenKind::True
+            | TokenKind::False
+            | TokenKind::Null
+            | TokenKind::Poison
+            | TokenKind::Inbounds
+            | TokenKind::Nusw
+            | TokenKind::Nuw
+            | TokenKind::Nsw
+            | TokenKind::Exact
+            | TokenKind::Disjoint
+            | TokenKind::Samesign
+            | TokenKind::Nneg
+            | TokenKind::Eq
+            | TokenKind::Ne
+            | TokenKind::Ugt
+            | TokenKind::Uge
+            | TokenKind::Ult
+            | TokenKind::Ule
+            | TokenKind::Sgt
+            | TokenKind::Sge
+            | TokenKind::Slt
+            | TokenKind::Sle
+            | TokenKind::To
+            | TokenKind::LabelType
+            | TokenKind::ParameterWord
+            | TokenKind::ParameterGroup
+            | TokenKind::Noinline
+            | TokenKind::Optnone
     )
 }
 
-/// Whether a word of this class is an attribute there.
-fn is_word_of(place: Place, head: Head) -> bool
+/// Whether a word of this kind is an attribute there.
+fn is_word_of(place: AttributePlace, head: TokenKind) -> bool
     ensures { result ≡ contains (words_of place) (number head) }
 {
     match place {
-        Place::Head => is_attribute_word(head),
-        Place::Call => head.is(Head::Align) || is_attribute_word(head),
-        Place::Group => {
-            head.is(Head::RefusedWord)
-                || head.is(Head::RefusedInteger)
-                || head.is(Head::Align)
+        AttributePlace::Head => is_attribute_word(head),
+        AttributePlace::Call => head.is(TokenKind::Align) || is_attribute_word(head),
+        AttributePlace::Group => {
+            head.is(TokenKind::RefusedWord)
+                || head.is(TokenKind::RefusedInteger)
+                || head.is(TokenKind::Align)
                 || is_attribute_word(head)
         }
     }
 }
 
-fn kept_of(head: Head) -> Attribute
+fn kept_of(head: TokenKind) -> Attribute
     ensures { result ≡ kept_of head }
 {
     match head {
-        Head::Noinline => Attribute::Noinline,
-        Head::Optnone => Attribute::Optnone,
+        TokenKind::Noinline => Attribute::Noinline,
+        TokenKind::Optnone => Attribute::Optnone,
         _ => Attribute::Dropped,
     }
 }
 
 #[tactic(auto, unfolding(crate::specs::AttributesAt::aligned_at))]
-fn aligned_at(alloc: Global, tokens: &mut Tokens) -> Result<(), ReadError>
-    ensures { Gives (λ x. (tt, tokens.new)) result (aligned_at tokens.old) }
+fn aligned_at(alloc: Global, tokens: &mut Tokens) -> Result<(), ReaderError>
+    ensures { Returns (λ x. (tt, tokens.new)) result (aligned_at tokens.old) }
 {
-    if tokens.comes(Head::Number) {
+    if tokens.comes(TokenKind::Number) {
         alignment_at(tokens)?;
         Ok(())
     } else {
@@ -154,16 +154,16 @@ fn aligned_at(alloc: Global, tokens: &mut Tokens) -> Result<(), ReadError>
 }
 
 #[tactic(auto, unfolding(crate::specs::AttributesAt::parameter_attribute_at))]
-pub fn parameter_attribute_at(alloc: Global, tokens: &mut Tokens) -> Result<(), ReadError>
-    ensures { Gives (λ x. (tt, tokens.new)) result (parameter_attribute_at tokens.old) }
+pub fn parameter_attribute_at(alloc: Global, tokens: &mut Tokens) -> Result<(), ReaderError>
+    ensures { Returns (λ x. (tt, tokens.new)) result (parameter_attribute_at tokens.old) }
 {
-    if tokens.comes(Head::ParameterWord) {
-        expect(Head::ParameterWord, tokens)
-    } else if tokens.comes(Head::ParameterGroup) {
-        expect(Head::ParameterGroup, tokens)?;
+    if tokens.comes(TokenKind::ParameterWord) {
+        expect(TokenKind::ParameterWord, tokens)
+    } else if tokens.comes(TokenKind::ParameterGroup) {
+        expect(TokenKind::ParameterGroup, tokens)?;
         group_at(alloc, Bracket::Paren, tokens)
     } else {
-        expect(Head::Align, tokens)?;
+        expect(TokenKind::Align, tokens)?;
         aligned_at(alloc, tokens)
     }
 }
@@ -172,10 +172,10 @@ pub fn parameter_attribute_at(alloc: Global, tokens: &mut Tokens) -> Result<(), 
 fn comes_parameter_attribute(rest: &Tokens) -> bool
     ensures { result ≡ next_is (among tokens PARAMETER) rest.now }
 {
-    match rest.head() {
+    match rest.kind() {
         Some(head) => matches!(
             head,
-            Head::ParameterWord | Head::ParameterGroup | Head::Align
+            TokenKind::ParameterWord | TokenKind::ParameterGroup | TokenKind::Align
         ),
         None => false,
     }
@@ -183,8 +183,8 @@ fn comes_parameter_attribute(rest: &Tokens) -> bool
 
 /// Reads the attributes of a parameter, a result or an argument: `noundef align 8 captures(none)`.
 #[tactic(auto, unfolding(crate::specs::AttributesAt::parameter_attributes_at))]
-pub fn parameter_attributes_at(alloc: Global, tokens: &mut Tokens) -> Result<(), ReadError>
-    ensures { Gives (λ x. (tt, tokens.new)) result (parameter_attributes_at tokens.old) }
+pub fn parameter_attributes_at(alloc: Global, tokens: &mut Tokens) -> Result<(), ReaderError>
+    ensures { Returns (λ x. (tt, tokens.new)) result (parameter_attributes_at tokens.old) }
 {
     'each: while comes_parameter_attribute(tokens) {
         parameter_attribute_at(alloc, tokens)?;
@@ -193,36 +193,36 @@ pub fn parameter_attributes_at(alloc: Global, tokens: &mut Tokens) -> Result<(),
 }
 
 #[tactic(auto, unfolding(crate::specs::AttributesAt::word_tail_at))]
-fn word_tail_at(alloc: Global, tokens: &mut Tokens) -> Result<(), ReadError>
-    ensures { Gives (λ x. (tt, tokens.new)) result (word_tail_at tokens.old) }
+fn word_tail_at(alloc: Global, tokens: &mut Tokens) -> Result<(), ReaderError>
+    ensures { Returns (λ x. (tt, tokens.new)) result (word_tail_at tokens.old) }
 {
-    if tokens.comes(Head::OpenParen) {
+    if tokens.comes(TokenKind::OpenParen) {
         group_at(alloc, Bracket::Paren, tokens)
-    } else if tokens.comes(Head::Equals) {
-        expect(Head::Equals, tokens)?;
-        expect(Head::Number, tokens)
+    } else if tokens.comes(TokenKind::Equals) {
+        expect(TokenKind::Equals, tokens)?;
+        expect(TokenKind::Number, tokens)
     } else {
         Ok(())
     }
 }
 
 #[tactic(auto, unfolding(ir_read::specs::Rules::is_among))]
-fn word_at(place: Place, tokens: &mut Tokens) -> Result<Attribute, ReadError>
-    ensures { Gives (λ x. (x, tokens.new)) result (one_of_at (words_of place) word_kept tokens.old) }
+fn word_at(place: AttributePlace, tokens: &mut Tokens) -> Result<Attribute, ReaderError>
+    ensures { Returns (λ x. (x, tokens.new)) result (one_of_at (words_of place) word_kept tokens.old) }
 {
     let left = tokens.left();
     match tokens.take() {
-        None => Err(ReadError::Fault(Fault {
+        None => Err(ReaderError::Fault(Fault {
             left,
             kind: TokenFault::Syntax,
         })),
         Some(t) => {
-            if is_word_of(place, t.head) {
-                Ok(kept_of(t.head))
+            if is_word_of(place, t.kind) {
+                Ok(kept_of(t.kind))
             } else {
-                Err(ReadError::Fault(Fault {
+                Err(ReaderError::Fault(Fault {
                     left,
-                    kind: refusal(t.head),
+                    kind: refusal(t.kind),
                 }))
             }
         }
@@ -232,10 +232,10 @@ fn word_at(place: Place, tokens: &mut Tokens) -> Result<Attribute, ReadError>
 #[tactic(auto, unfolding(crate::specs::AttributesAt::word_attribute_at))]
 fn word_attribute_at(
     alloc: Global,
-    place: Place,
+    place: AttributePlace,
     tokens: &mut Tokens,
-) -> Result<Attribute, ReadError>
-    ensures { Gives (λ x. (x, tokens.new)) result (word_attribute_at (words_of place) tokens.old) }
+) -> Result<Attribute, ReaderError>
+    ensures { Returns (λ x. (x, tokens.new)) result (word_attribute_at (words_of place) tokens.old) }
 {
     let kept = word_at(place, tokens)?;
     word_tail_at(alloc, tokens)?;
@@ -243,19 +243,19 @@ fn word_attribute_at(
 }
 
 #[tactic(auto, unfolding(crate::specs::AttributesAt::string_value_at))]
-fn string_value_at(tokens: &mut Tokens) -> Result<(), ReadError>
-    ensures { Gives (λ x. (tt, tokens.new)) result (string_value_at tokens.old) }
+fn string_value_at(tokens: &mut Tokens) -> Result<(), ReaderError>
+    ensures { Returns (λ x. (tt, tokens.new)) result (string_value_at tokens.old) }
 {
-    expect(Head::Equals, tokens)?;
-    expect(Head::Str, tokens)
+    expect(TokenKind::Equals, tokens)?;
+    expect(TokenKind::Str, tokens)
 }
 
 #[tactic(auto, unfolding(crate::specs::AttributesAt::string_attribute_at))]
-fn string_attribute_at(tokens: &mut Tokens) -> Result<Attribute, ReadError>
-    ensures { Gives (λ x. (x, tokens.new)) result (string_attribute_at tokens.old) }
+fn string_attribute_at(tokens: &mut Tokens) -> Result<Attribute, ReaderError>
+    ensures { Returns (λ x. (x, tokens.new)) result (string_attribute_at tokens.old) }
 {
-    expect(Head::Str, tokens)?;
-    if tokens.comes(Head::Equals) {
+    expect(TokenKind::Str, tokens)?;
+    if tokens.comes(TokenKind::Equals) {
         string_value_at(tokens)?;
     }
     Ok(Attribute::Dropped)
@@ -264,12 +264,12 @@ fn string_attribute_at(tokens: &mut Tokens) -> Result<Attribute, ReadError>
 #[tactic(auto, unfolding(crate::specs::AttributesAt::function_attribute_at))]
 fn function_attribute_at(
     alloc: Global,
-    place: Place,
+    place: AttributePlace,
     tokens: &mut Tokens,
-) -> Result<Attribute, ReadError>
-    ensures { Gives (λ x. (x, tokens.new)) result (function_attribute_at (words_of place) tokens.old) }
+) -> Result<Attribute, ReaderError>
+    ensures { Returns (λ x. (x, tokens.new)) result (function_attribute_at (words_of place) tokens.old) }
 {
-    if tokens.comes(Head::Str) {
+    if tokens.comes(TokenKind::Str) {
         string_attribute_at(tokens)
     } else {
         word_attribute_at(alloc, place, tokens)
@@ -280,63 +280,63 @@ fn function_attribute_at(
 fn group_means(alloc: Global, t: &Token) -> Result<Result<Name, TokenFault>, AllocError>
     ensures { IfOk result (λ x. x ≡ is_valued tokens refusal GROUP group_named (tok t.now)) }
 {
-    if t.head.is(Head::Group) {
+    if t.kind.is(TokenKind::Group) {
         match group_named(alloc, t)? {
             None => Ok(Err(TokenFault::Number)),
             Some(name) => Ok(Ok(name)),
         }
     } else {
-        Ok(Err(refusal(t.head)))
+        Ok(Err(refusal(t.kind)))
     }
 }
 
 /// Takes the name of an attribute group.
-fn group_name_at(alloc: Global, tokens: &mut Tokens) -> Result<Name, ReadError>
-    ensures { Gives (λ x. (x, tokens.new)) result (group_name_at tokens.old) }
+fn group_name_at(alloc: Global, tokens: &mut Tokens) -> Result<Name, ReaderError>
+    ensures { Returns (λ x. (x, tokens.new)) result (group_name_at tokens.old) }
 {
     let left = tokens.left();
     match tokens.take() {
-        None => Err(ReadError::Fault(Fault {
+        None => Err(ReaderError::Fault(Fault {
             left,
             kind: TokenFault::Syntax,
         })),
         Some(t) => match group_means(alloc, &t)? {
             Ok(x) => Ok(x),
-            Err(kind) => Err(ReadError::Fault(Fault { left, kind })),
+            Err(kind) => Err(ReaderError::Fault(Fault { left, kind })),
         },
     }
 }
 
 #[tactic(auto, unfolding(crate::specs::AttributesAt::group_attribute_at))]
-fn group_attribute_at(alloc: Global, tokens: &mut Tokens) -> Result<Attribute, ReadError>
-    ensures { Gives (λ x. (x, tokens.new)) result (group_attribute_at tokens.old) }
+fn group_attribute_at(alloc: Global, tokens: &mut Tokens) -> Result<Attribute, ReaderError>
+    ensures { Returns (λ x. (x, tokens.new)) result (group_attribute_at tokens.old) }
 {
     let name = group_name_at(alloc, tokens)?;
     Ok(Attribute::Group(name))
 }
 
 #[tactic(auto, unfolding(crate::specs::AttributesAt::call_attribute_at))]
-fn call_attribute_at(alloc: Global, tokens: &mut Tokens) -> Result<Attribute, ReadError>
-    ensures { Gives (λ x. (x, tokens.new)) result (call_attribute_at tokens.old) }
+fn call_attribute_at(alloc: Global, tokens: &mut Tokens) -> Result<Attribute, ReaderError>
+    ensures { Returns (λ x. (x, tokens.new)) result (call_attribute_at tokens.old) }
 {
-    if tokens.comes(Head::Group) {
+    if tokens.comes(TokenKind::Group) {
         group_attribute_at(alloc, tokens)
     } else {
-        function_attribute_at(alloc, Place::Call, tokens)
+        function_attribute_at(alloc, AttributePlace::Call, tokens)
     }
 }
 
-fn begins_call_attribute(head: Head) -> bool
+fn begins_call_attribute(head: TokenKind) -> bool
     ensures { result ≡ contains CALL (number head) }
 {
-    head.is(Head::Group) || head.is(Head::Str) || is_word_of(Place::Call, head)
+    head.is(TokenKind::Group) || head.is(TokenKind::Str) || is_word_of(AttributePlace::Call, head)
 }
 
 /// Whether an attribute comes that may stand behind the arguments of a call.
 fn comes_call_attribute(rest: &Tokens) -> bool
     ensures { result ≡ next_is (among tokens CALL) rest.now }
 {
-    match rest.head() {
+    match rest.kind() {
         Some(head) => begins_call_attribute(head),
         None => false,
     }
@@ -344,8 +344,8 @@ fn comes_call_attribute(rest: &Tokens) -> bool
 
 /// Reads what stands behind the arguments of a call, and drops it.
 #[tactic(auto, unfolding(crate::specs::AttributesAt::call_attributes_at))]
-pub fn call_attributes_at(alloc: Global, tokens: &mut Tokens) -> Result<(), ReadError>
-    ensures { Gives (λ x. (tt, tokens.new)) result (call_attributes_at tokens.old) }
+pub fn call_attributes_at(alloc: Global, tokens: &mut Tokens) -> Result<(), ReaderError>
+    ensures { Returns (λ x. (tt, tokens.new)) result (call_attributes_at tokens.old) }
 {
     'each: while comes_call_attribute(tokens) {
         call_attribute_at(alloc, tokens)?;
@@ -354,11 +354,11 @@ pub fn call_attributes_at(alloc: Global, tokens: &mut Tokens) -> Result<(), Read
 }
 
 #[tactic(auto, unfolding(crate::specs::AttributesAt::head_alignment_at))]
-fn head_alignment_at(alloc: Global, tokens: &mut Tokens) -> Result<Attribute, ReadError>
-    ensures { Gives (λ x. (x, tokens.new)) result (head_alignment_at tokens.old) }
+fn head_alignment_at(alloc: Global, tokens: &mut Tokens) -> Result<Attribute, ReaderError>
+    ensures { Returns (λ x. (x, tokens.new)) result (head_alignment_at tokens.old) }
 {
-    expect(Head::Align, tokens)?;
-    if tokens.comes(Head::Number) {
+    expect(TokenKind::Align, tokens)?;
+    if tokens.comes(TokenKind::Number) {
         alignment_at(tokens)?;
     } else {
         word_tail_at(alloc, tokens)?;
@@ -367,15 +367,15 @@ fn head_alignment_at(alloc: Global, tokens: &mut Tokens) -> Result<Attribute, Re
 }
 
 #[tactic(auto, unfolding(crate::specs::AttributesAt::head_attribute_at))]
-pub fn head_attribute_at(alloc: Global, tokens: &mut Tokens) -> Result<Attribute, ReadError>
-    ensures { Gives (λ x. (x, tokens.new)) result (head_attribute_at tokens.old) }
+pub fn head_attribute_at(alloc: Global, tokens: &mut Tokens) -> Result<Attribute, ReaderError>
+    ensures { Returns (λ x. (x, tokens.new)) result (head_attribute_at tokens.old) }
 {
-    if tokens.comes(Head::Group) {
+    if tokens.comes(TokenKind::Group) {
         group_attribute_at(alloc, tokens)
-    } else if tokens.comes(Head::Align) {
+    } else if tokens.comes(TokenKind::Align) {
         head_alignment_at(alloc, tokens)
     } else {
-        function_attribute_at(alloc, Place::Head, tokens)
+        function_attribute_at(alloc, AttributePlace::Head, tokens)
     }
 }
 
@@ -383,15 +383,15 @@ pub fn head_attribute_at(alloc: Global, tokens: &mut Tokens) -> Result<Attribute
 fn comes_metadata(rest: &Tokens) -> bool
     ensures { result ≡ next_is (among tokens META) rest.now }
 {
-    match rest.head() {
-        Some(head) => matches!(head, Head::Meta | Head::Bang),
+    match rest.kind() {
+        Some(head) => matches!(head, TokenKind::Meta | TokenKind::Bang),
         None => false,
     }
 }
 
 #[tactic(auto, unfolding(crate::specs::AttributesAt::attached_attribute_at, crate::specs::AttributesAt::definition_attribute_at))]
-fn definition_attribute_at(alloc: Global, tokens: &mut Tokens) -> Result<Attribute, ReadError>
-    ensures { Gives (λ x. (x, tokens.new)) result (definition_attribute_at tokens.old) }
+fn definition_attribute_at(alloc: Global, tokens: &mut Tokens) -> Result<Attribute, ReaderError>
+    ensures { Returns (λ x. (x, tokens.new)) result (definition_attribute_at tokens.old) }
 {
     if comes_metadata(tokens) {
         attached_at(alloc, tokens)?;
@@ -401,22 +401,22 @@ fn definition_attribute_at(alloc: Global, tokens: &mut Tokens) -> Result<Attribu
     }
 }
 
-fn begins_definition_attribute(head: Head) -> bool
+fn begins_definition_attribute(head: TokenKind) -> bool
     ensures { result ≡ contains DEFINITION (number head) }
 {
-    head.is(Head::Meta)
-        || head.is(Head::Bang)
-        || head.is(Head::Group)
-        || head.is(Head::Align)
-        || head.is(Head::Str)
-        || is_word_of(Place::Head, head)
+    head.is(TokenKind::Meta)
+        || head.is(TokenKind::Bang)
+        || head.is(TokenKind::Group)
+        || head.is(TokenKind::Align)
+        || head.is(TokenKind::Str)
+        || is_word_of(AttributePlace::Head, head)
 }
 
 /// Whether an attribute of a definition comes.
 fn comes_definition_attribute(rest: &Tokens) -> bool
     ensures { result ≡ next_is (among tokens DEFINITION) rest.now }
 {
-    match rest.head() {
+    match rest.kind() {
         Some(head) => begins_definition_attribute(head),
         None => false,
     }
@@ -463,8 +463,8 @@ impl Kept {
 
 /// Reads what stands between the head of a definition and its body, and keeps what the link needs.
 #[tactic(auto, unfolding(crate::specs::AttributesAt::definition_attributes_at))]
-pub fn definition_attributes_at(alloc: Global, tokens: &mut Tokens) -> Result<Kept, ReadError>
-    ensures { Gives (λ x. (x, tokens.new)) result (definition_attributes_at tokens.old) }
+pub fn definition_attributes_at(alloc: Global, tokens: &mut Tokens) -> Result<Kept, ReaderError>
+    ensures { Returns (λ x. (x, tokens.new)) result (definition_attributes_at tokens.old) }
 {
     let mut kept = Kept::new(alloc);
     'each: while comes_definition_attribute(tokens) {
@@ -474,29 +474,29 @@ pub fn definition_attributes_at(alloc: Global, tokens: &mut Tokens) -> Result<Ke
     Ok(kept)
 }
 
-fn begins_grouped(head: Head) -> bool
+fn begins_grouped(head: TokenKind) -> bool
     ensures { result ≡ contains GROUPED (number head) }
 {
-    head.is(Head::Str) || is_word_of(Place::Group, head)
+    head.is(TokenKind::Str) || is_word_of(AttributePlace::Group, head)
 }
 
 /// Whether an attribute of a group comes.
 fn comes_grouped(rest: &Tokens) -> bool
     ensures { result ≡ next_is (among tokens GROUPED) rest.now }
 {
-    match rest.head() {
+    match rest.kind() {
         Some(head) => begins_grouped(head),
         None => false,
     }
 }
 
 #[tactic(auto, unfolding(crate::specs::AttributesAt::grouped_at))]
-fn grouped_at(alloc: Global, tokens: &mut Tokens) -> Result<Kept, ReadError>
-    ensures { Gives (λ x. (x, tokens.new)) result (grouped_at tokens.old) }
+fn grouped_at(alloc: Global, tokens: &mut Tokens) -> Result<Kept, ReaderError>
+    ensures { Returns (λ x. (x, tokens.new)) result (grouped_at tokens.old) }
 {
     let mut kept = Kept::new(alloc);
     'each: while comes_grouped(tokens) {
-        let attribute = function_attribute_at(alloc, Place::Group, tokens)?;
+        let attribute = function_attribute_at(alloc, AttributePlace::Group, tokens)?;
         kept = kept.with(attribute)?;
     }
     Ok(kept)
@@ -513,29 +513,29 @@ fn group_item(group: Name, kept: Kept) -> Item
 }
 
 /// Reads what follows the attributes of a group.
-fn ended_group_at(group: Name, kept: Kept, tokens: &mut Tokens) -> Result<Item, ReadError>
-    ensures { Gives (λ x. (x, tokens.new)) result (ended_group_at group kept tokens.old) }
+fn ended_group_at(group: Name, kept: Kept, tokens: &mut Tokens) -> Result<Item, ReaderError>
+    ensures { Returns (λ x. (x, tokens.new)) result (ended_group_at group kept tokens.old) }
 {
-    expect(Head::CloseBrace, tokens)?;
+    expect(TokenKind::CloseBrace, tokens)?;
     done(group_item(group, kept))
 }
 
 /// Reads what follows the name of an attribute group.
-fn named_group_at(alloc: Global, group: Name, tokens: &mut Tokens) -> Result<Item, ReadError>
-    ensures { Gives (λ x. (x, tokens.new)) result (named_group_at group tokens.old) }
+fn named_group_at(alloc: Global, group: Name, tokens: &mut Tokens) -> Result<Item, ReaderError>
+    ensures { Returns (λ x. (x, tokens.new)) result (named_group_at group tokens.old) }
 {
-    expect(Head::Equals, tokens)?;
-    expect(Head::OpenBrace, tokens)?;
+    expect(TokenKind::Equals, tokens)?;
+    expect(TokenKind::OpenBrace, tokens)?;
     let kept = grouped_at(alloc, tokens)?;
     ended_group_at(group, kept, tokens)
 }
 
 /// Reads an attribute group: `attributes #0 = { nounwind "frame-pointer"="all" }`.
 #[tactic(auto, unfolding(crate::specs::AttributesAt::attribute_group_at))]
-pub fn attribute_group_at(alloc: Global, tokens: &mut Tokens) -> Result<Item, ReadError>
-    ensures { Gives (λ x. (x, tokens.new)) result (attribute_group_at tokens.old) }
+pub fn attribute_group_at(alloc: Global, tokens: &mut Tokens) -> Result<Item, ReaderError>
+    ensures { Returns (λ x. (x, tokens.new)) result (attribute_group_at tokens.old) }
 {
-    expect(Head::Attributes, tokens)?;
+    expect(TokenKind::Attributes, tokens)?;
     let group = group_name_at(alloc, tokens)?;
     named_group_at(alloc, group, tokens)
 }

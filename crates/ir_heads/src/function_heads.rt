@@ -2,10 +2,10 @@
 //! "Functions", "Linkage Types").
 
 ghost use Rattle.std.specs.Prelude.{◌≡◌, IfOk};
-ghost use Rattle.ir_lex.specs.Heads.{number};
+ghost use Rattle.ir_lex.specs.TokenKinds.{number};
 ghost use Rattle.ir_lex.specs.Tok.{tok};
 ghost use Rattle.ir_read.specs.Alphabet.{contains, among};
-ghost use Rattle.ir_read.specs.Readers.{Gives, next_is};
+ghost use Rattle.ir_read.specs.Readers.{Returns, next_is};
 ghost use Rattle.ir_read.specs.Rules.{is_valued};
 ghost use Rattle.ir_read.specs.Classes.{tokens, one_of_at};
 ghost use Rattle.ir_heads.specs.FunctionHeads.{linkages_of, linkage_by, linkage_word, QUALIFIERS, nothing_of, with_linkage, is_local, names_of, name_refusal, head_of};
@@ -13,9 +13,9 @@ ghost use Rattle.ir_heads.specs.FunctionHeadsAt.{LEADING, QUALIFYING, linking_at
 ghost use Rattle.ir_read.specs.Operands.{global_named};
 
 use crate::attributes::{parameter_attribute_at, parameter_attributes_at};
-use ir_lex::{Head, Token};
+use ir_lex::{Token, TokenKind};
 use ir_read::{
-    Fault, Head as WrittenHead, Name, Param, ReadError, TokenFault, Tokens, expect, global_named,
+    Fault, FunctionHeader, Name, Param, ReaderError, TokenFault, Tokens, expect, global_named,
     local_at, refusal, reg_at, result_at, type_refusal,
 };
 use ir_tree::{Linkage, Rows};
@@ -36,59 +36,59 @@ struct Leading {
     linked: bool,
 }
 
-/// Whether a word of this class is a linkage that such a function may have.
-fn is_linkage_of(role: Role, head: Head) -> bool
+/// Whether a word of this kind is a linkage that such a function may have.
+fn is_linkage_of(role: Role, head: TokenKind) -> bool
     ensures { result ≡ contains (linkages_of role) (number head) }
 {
     match role {
-        Role::Declaration => matches!(head, Head::External),
+        Role::Declaration => matches!(head, TokenKind::External),
         Role::Definition => matches!(
             head,
-            Head::Private
-                | Head::Internal
-                | Head::External
-                | Head::Linkonce
-                | Head::LinkonceOdr
-                | Head::Weak
-                | Head::WeakOdr
-                | Head::AvailableExternally
+            TokenKind::Private
+                | TokenKind::Internal
+                | TokenKind::External
+                | TokenKind::Linkonce
+                | TokenKind::LinkonceOdr
+                | TokenKind::Weak
+                | TokenKind::WeakOdr
+                | TokenKind::AvailableExternally
         ),
     }
 }
 
-pub fn linkage_by(head: Head) -> Linkage
+pub fn linkage_by(head: TokenKind) -> Linkage
     ensures { result ≡ linkage_by head }
 {
     match head {
-        Head::Private => Linkage::Private,
-        Head::Internal => Linkage::Internal,
-        Head::Linkonce => Linkage::Linkonce,
-        Head::LinkonceOdr => Linkage::LinkonceOdr,
-        Head::Weak => Linkage::Weak,
-        Head::WeakOdr => Linkage::WeakOdr,
-        Head::AvailableExternally => Linkage::AvailableExternally,
+        TokenKind::Private => Linkage::Private,
+        TokenKind::Internal => Linkage::Internal,
+        TokenKind::Linkonce => Linkage::Linkonce,
+        TokenKind::LinkonceOdr => Linkage::LinkonceOdr,
+        TokenKind::Weak => Linkage::Weak,
+        TokenKind::WeakOdr => Linkage::WeakOdr,
+        TokenKind::AvailableExternally => Linkage::AvailableExternally,
         _ => Linkage::External,
     }
 }
 
 /// Takes a linkage that such a function may have.
 #[tactic(auto, unfolding(ir_read::specs::Rules::is_among))]
-fn linkage_at(role: Role, tokens: &mut Tokens) -> Result<Linkage, ReadError>
-    ensures { Gives (λ x. (x, tokens.new)) result (one_of_at (linkages_of role) linkage_word tokens.old) }
+fn linkage_at(role: Role, tokens: &mut Tokens) -> Result<Linkage, ReaderError>
+    ensures { Returns (λ x. (x, tokens.new)) result (one_of_at (linkages_of role) linkage_word tokens.old) }
 {
     let left = tokens.left();
     match tokens.take() {
-        None => Err(ReadError::Fault(Fault {
+        None => Err(ReaderError::Fault(Fault {
             left,
             kind: TokenFault::Syntax,
         })),
         Some(t) => {
-            if is_linkage_of(role, t.head) {
-                Ok(linkage_by(t.head))
+            if is_linkage_of(role, t.kind) {
+                Ok(linkage_by(t.kind))
             } else {
-                Err(ReadError::Fault(Fault {
+                Err(ReaderError::Fault(Fault {
                     left,
-                    kind: refusal(t.head),
+                    kind: refusal(t.kind),
                 }))
             }
         }
@@ -97,34 +97,34 @@ fn linkage_at(role: Role, tokens: &mut Tokens) -> Result<Linkage, ReadError>
 
 /// Takes a word of visibility, of addresses or of a calling convention.
 #[tactic(auto, unfolding(ir_read::specs::Rules::is_among))]
-pub fn qualifier_word_at(tokens: &mut Tokens) -> Result<(), ReadError>
-    ensures { Gives (λ x. (tt, tokens.new)) result (one_of_at QUALIFIERS nothing_of tokens.old) }
+pub fn qualifier_word_at(tokens: &mut Tokens) -> Result<(), ReaderError>
+    ensures { Returns (λ x. (tt, tokens.new)) result (one_of_at QUALIFIERS nothing_of tokens.old) }
 {
     let left = tokens.left();
     match tokens.take() {
-        None => Err(ReadError::Fault(Fault {
+        None => Err(ReaderError::Fault(Fault {
             left,
             kind: TokenFault::Syntax,
         })),
         Some(t) => {
-            if is_qualifier(t.head) {
+            if is_qualifier(t.kind) {
                 Ok(())
             } else {
-                Err(ReadError::Fault(Fault {
+                Err(ReaderError::Fault(Fault {
                     left,
-                    kind: refusal(t.head),
+                    kind: refusal(t.kind),
                 }))
             }
         }
     }
 }
 
-pub fn is_qualifier(head: Head) -> bool
+pub fn is_qualifier(head: TokenKind) -> bool
     ensures { result ≡ contains QUALIFIERS (number head) }
 {
     matches!(
         head,
-        Head::Visibility | Head::UnnamedAddr | Head::CallingConvention
+        TokenKind::Visibility | TokenKind::UnnamedAddr | TokenKind::CallingConvention
     )
 }
 
@@ -132,18 +132,18 @@ pub fn is_qualifier(head: Head) -> bool
 pub fn comes_qualifier(rest: &Tokens) -> bool
     ensures { result ≡ next_is (among tokens QUALIFIERS) rest.now }
 {
-    match rest.head() {
+    match rest.kind() {
         Some(head) => matches!(
             head,
-            Head::Visibility | Head::UnnamedAddr | Head::CallingConvention
+            TokenKind::Visibility | TokenKind::UnnamedAddr | TokenKind::CallingConvention
         ),
         None => false,
     }
 }
 
 #[tactic(auto, unfolding(crate::specs::FunctionHeadsAt::qualifier_at))]
-fn qualifier_at(alloc: Global, tokens: &mut Tokens) -> Result<(), ReadError>
-    ensures { Gives (λ x. (tt, tokens.new)) result (qualifier_at tokens.old) }
+fn qualifier_at(alloc: Global, tokens: &mut Tokens) -> Result<(), ReaderError>
+    ensures { Returns (λ x. (tt, tokens.new)) result (qualifier_at tokens.old) }
 {
     if comes_qualifier(tokens) {
         qualifier_word_at(tokens)
@@ -152,21 +152,21 @@ fn qualifier_at(alloc: Global, tokens: &mut Tokens) -> Result<(), ReadError>
     }
 }
 
-fn begins_qualifying(head: Head) -> bool
+fn begins_qualifying(head: TokenKind) -> bool
     ensures { result ≡ contains QUALIFYING (number head) }
 {
     matches!(
         head,
-        Head::Visibility
-            | Head::UnnamedAddr
-            | Head::CallingConvention
-            | Head::ParameterWord
-            | Head::ParameterGroup
-            | Head::Align
+        TokenKind::Visibility
+            | TokenKind::UnnamedAddr
+            | TokenKind::CallingConvention
+            | TokenKind::ParameterWord
+            | TokenKind::ParameterGroup
+            | TokenKind::Align
     )
 }
 
-fn begins_leading(role: Role, linked: bool, head: Head) -> bool
+fn begins_leading(role: Role, linked: bool, head: TokenKind) -> bool
     ensures { result ≡ contains (LEADING role linked) (number head) }
 {
     if linked {
@@ -180,7 +180,7 @@ fn begins_leading(role: Role, linked: bool, head: Head) -> bool
 fn comes_leading(role: Role, linked: bool, rest: &Tokens) -> bool
     ensures { result ≡ next_is (among tokens (LEADING role linked)) rest.now }
 {
-    match rest.head() {
+    match rest.kind() {
         Some(head) => begins_leading(role, linked, head),
         None => false,
     }
@@ -190,7 +190,7 @@ fn comes_leading(role: Role, linked: bool, rest: &Tokens) -> bool
 fn comes_linkage(role: Role, rest: &Tokens) -> bool
     ensures { result ≡ next_is (among tokens (linkages_of role)) rest.now }
 {
-    match rest.head() {
+    match rest.kind() {
         Some(head) => is_linkage_of(role, head),
         None => false,
     }
@@ -202,8 +202,8 @@ fn leading_at(
     role: Role,
     linked: bool,
     tokens: &mut Tokens,
-) -> Result<Leading, ReadError>
-    ensures { Gives (λ x. ((x.linkage, x.linked), tokens.new)) result (leading_at role linked tokens.old) }
+) -> Result<Leading, ReaderError>
+    ensures { Returns (λ x. ((x.linkage, x.linked), tokens.new)) result (leading_at role linked tokens.old) }
 {
     if linked {
         qualifier_at(alloc, tokens)?;
@@ -238,8 +238,8 @@ pub fn with_linkage(linkage: Linkage, written: Option<Linkage>) -> Linkage
 
 /// Reads what stands before the result: the linkage that is written there, or `External`.
 #[tactic(auto, unfolding(crate::specs::FunctionHeadsAt::prefix_at))]
-fn prefix_at(alloc: Global, role: Role, tokens: &mut Tokens) -> Result<Linkage, ReadError>
-    ensures { Gives (λ x. (x, tokens.new)) result (prefix_at role tokens.old) }
+fn prefix_at(alloc: Global, role: Role, tokens: &mut Tokens) -> Result<Linkage, ReaderError>
+    ensures { Returns (λ x. (x, tokens.new)) result (prefix_at role tokens.old) }
 {
     let mut linkage = Linkage::External;
     let mut linked = false;
@@ -257,31 +257,31 @@ pub fn is_local(linkage: Linkage) -> bool
     matches!(linkage, Linkage::Private | Linkage::Internal)
 }
 
-/// Whether a token of this class names such a function.
-fn is_name_of(role: Role, linkage: Linkage, head: Head) -> bool
+/// Whether a token of this kind names such a function.
+fn is_name_of(role: Role, linkage: Linkage, head: TokenKind) -> bool
     ensures { result ≡ contains (names_of role linkage) (number head) }
 {
     match role {
-        Role::Declaration => matches!(head, Head::LifetimeMarker | Head::Global),
+        Role::Declaration => matches!(head, TokenKind::LifetimeMarker | TokenKind::Global),
         Role::Definition => {
             if is_local(linkage) {
                 matches!(
                     head,
-                    Head::NumberedGlobal | Head::NumberedDefinition | Head::Global
+                    TokenKind::NumberedGlobal | TokenKind::NumberedDefinition | TokenKind::Global
                 )
             } else {
-                matches!(head, Head::Global)
+                matches!(head, TokenKind::Global)
             }
         }
     }
 }
 
 /// Why a token can't name a function.
-pub fn name_refusal(head: Head) -> TokenFault
+pub fn name_refusal(head: TokenKind) -> TokenFault
     ensures { result ≡ name_refusal (number head) }
 {
     match head {
-        Head::NumberedGlobal | Head::NumberedDefinition => TokenFault::Profile,
+        TokenKind::NumberedGlobal | TokenKind::NumberedDefinition => TokenFault::Profile,
         _ => refusal(head),
     }
 }
@@ -296,13 +296,13 @@ fn name_means(
 ) -> Result<Result<Name, TokenFault>, AllocError>
     ensures { IfOk result (λ x. x ≡ is_valued tokens name_refusal (names_of role linkage) global_named (tok t.now)) }
 {
-    if is_name_of(role, linkage, t.head) {
+    if is_name_of(role, linkage, t.kind) {
         match global_named(alloc, t)? {
             None => Ok(Err(TokenFault::Number)),
             Some(name) => Ok(Ok(name)),
         }
     } else {
-        Ok(Err(name_refusal(t.head)))
+        Ok(Err(name_refusal(t.kind)))
     }
 }
 
@@ -312,30 +312,30 @@ fn function_name_at(
     role: Role,
     linkage: Linkage,
     tokens: &mut Tokens,
-) -> Result<Name, ReadError>
-    ensures { Gives (λ x. (x, tokens.new)) result (function_name_at role linkage tokens.old) }
+) -> Result<Name, ReaderError>
+    ensures { Returns (λ x. (x, tokens.new)) result (function_name_at role linkage tokens.old) }
 {
     let left = tokens.left();
     match tokens.take() {
-        None => Err(ReadError::Fault(Fault {
+        None => Err(ReaderError::Fault(Fault {
             left,
             kind: TokenFault::Syntax,
         })),
         Some(t) => match name_means(alloc, role, linkage, &t)? {
             Ok(x) => Ok(x),
-            Err(kind) => Err(ReadError::Fault(Fault { left, kind })),
+            Err(kind) => Err(ReaderError::Fault(Fault { left, kind })),
         },
     }
 }
 
 /// Reads a parameter: `ptr noundef %p`.
 #[tactic(auto, unfolding(crate::specs::FunctionHeadsAt::param_at))]
-fn param_at(alloc: Global, tokens: &mut Tokens) -> Result<Param, ReadError>
-    ensures { Gives (λ x. (x, tokens.new)) result (param_at tokens.old) }
+fn param_at(alloc: Global, tokens: &mut Tokens) -> Result<Param, ReaderError>
+    ensures { Returns (λ x. (x, tokens.new)) result (param_at tokens.old) }
 {
     let reg = reg_at(tokens)?;
     parameter_attributes_at(alloc, tokens)?;
-    if tokens.comes(Head::Local) {
+    if tokens.comes(TokenKind::Local) {
         let name = local_at(alloc, tokens)?;
         Ok(Param {
             reg,
@@ -347,10 +347,10 @@ fn param_at(alloc: Global, tokens: &mut Tokens) -> Result<Param, ReadError>
 }
 
 #[tactic(auto, unfolding(crate::specs::FunctionHeadsAt::further_param_at))]
-fn further_param_at(alloc: Global, tokens: &mut Tokens) -> Result<Param, ReadError>
-    ensures { Gives (λ x. (x, tokens.new)) result (further_param_at tokens.old) }
+fn further_param_at(alloc: Global, tokens: &mut Tokens) -> Result<Param, ReaderError>
+    ensures { Returns (λ x. (x, tokens.new)) result (further_param_at tokens.old) }
 {
-    expect(Head::Comma, tokens)?;
+    expect(TokenKind::Comma, tokens)?;
     param_at(alloc, tokens)
 }
 
@@ -361,14 +361,14 @@ fn params_behind_at(
     room: usize,
     front: Vec<Param>,
     tokens: &mut Tokens,
-) -> Result<Vec<Param>, ReadError>
-    ensures { Gives (λ x. (x.items, tokens.new)) result (params_behind_at room front.items tokens.old) }
+) -> Result<Vec<Param>, ReaderError>
+    ensures { Returns (λ x. (x.items, tokens.new)) result (params_behind_at room front.items tokens.old) }
 {
     let mut params = front;
     let mut left = room;
-    'each: while tokens.comes(Head::Comma) {
+    'each: while tokens.comes(TokenKind::Comma) {
         if left == 0 {
-            return Err(ReadError::Fault(Fault {
+            return Err(ReaderError::Fault(Fault {
                 left: tokens.left(),
                 kind: TokenFault::Limit,
             }));
@@ -381,8 +381,12 @@ fn params_behind_at(
 }
 
 #[tactic(auto, unfolding(crate::specs::FunctionHeadsAt::some_params_at))]
-fn some_params_at(alloc: Global, room: usize, tokens: &mut Tokens) -> Result<Vec<Param>, ReadError>
-    ensures { Gives (λ x. (x.items, tokens.new)) result (some_params_at room tokens.old) }
+fn some_params_at(
+    alloc: Global,
+    room: usize,
+    tokens: &mut Tokens,
+) -> Result<Vec<Param>, ReaderError>
+    ensures { Returns (λ x. (x.items, tokens.new)) result (some_params_at room tokens.old) }
 {
     let first = param_at(alloc, tokens)?;
     let mut params = Vec::new(alloc);
@@ -392,22 +396,22 @@ fn some_params_at(alloc: Global, room: usize, tokens: &mut Tokens) -> Result<Vec
 
 /// Takes the `)` behind a `(`, where a type might have stood.
 #[tactic(auto, unfolding(ir_read::specs::Rules::is_class))]
-pub fn end_of_none_at(tokens: &mut Tokens) -> Result<(), ReadError>
-    ensures { Gives (λ x. (tt, tokens.new)) result (end_of_none_at tokens.old) }
+pub fn end_of_none_at(tokens: &mut Tokens) -> Result<(), ReaderError>
+    ensures { Returns (λ x. (tt, tokens.new)) result (end_of_none_at tokens.old) }
 {
     let left = tokens.left();
     match tokens.take() {
-        None => Err(ReadError::Fault(Fault {
+        None => Err(ReaderError::Fault(Fault {
             left,
             kind: TokenFault::Syntax,
         })),
         Some(t) => {
-            if t.head.is(Head::CloseParen) {
+            if t.kind.is(TokenKind::CloseParen) {
                 Ok(())
             } else {
-                Err(ReadError::Fault(Fault {
+                Err(ReaderError::Fault(Fault {
                     left,
-                    kind: type_refusal(t.head),
+                    kind: type_refusal(t.kind),
                 }))
             }
         }
@@ -419,12 +423,12 @@ fn listed_params_at(
     alloc: Global,
     room: usize,
     tokens: &mut Tokens,
-) -> Result<Vec<Param>, ReadError>
-    ensures { Gives (λ x. (x.items, tokens.new)) result (listed_params_at room tokens.old) }
+) -> Result<Vec<Param>, ReaderError>
+    ensures { Returns (λ x. (x.items, tokens.new)) result (listed_params_at room tokens.old) }
 {
     if tokens.comes_reg() {
         let params = some_params_at(alloc, room, tokens)?;
-        expect(Head::CloseParen, tokens)?;
+        expect(TokenKind::CloseParen, tokens)?;
         Ok(params)
     } else {
         end_of_none_at(tokens)?;
@@ -433,10 +437,10 @@ fn listed_params_at(
 }
 
 #[tactic(auto, unfolding(crate::specs::FunctionHeadsAt::params_at))]
-fn params_at(alloc: Global, room: usize, tokens: &mut Tokens) -> Result<Vec<Param>, ReadError>
-    ensures { Gives (λ x. (x.items, tokens.new)) result (params_at room tokens.old) }
+fn params_at(alloc: Global, room: usize, tokens: &mut Tokens) -> Result<Vec<Param>, ReaderError>
+    ensures { Returns (λ x. (x.items, tokens.new)) result (params_at room tokens.old) }
 {
-    expect(Head::OpenParen, tokens)?;
+    expect(TokenKind::OpenParen, tokens)?;
     listed_params_at(alloc, room, tokens)
 }
 
@@ -448,14 +452,14 @@ pub fn head_at(
     role: Role,
     room: usize,
     tokens: &mut Tokens,
-) -> Result<WrittenHead, ReadError>
-    ensures { Gives (λ x. (x, tokens.new)) result (head_at role room tokens.old) }
+) -> Result<FunctionHeader, ReaderError>
+    ensures { Returns (λ x. (x, tokens.new)) result (head_at role room tokens.old) }
 {
     let linkage = prefix_at(alloc, role, tokens)?;
     let result = result_at(tokens)?;
     let name = function_name_at(alloc, role, linkage, tokens)?;
     let params = params_at(alloc, room, tokens)?;
-    Ok(WrittenHead {
+    Ok(FunctionHeader {
         linkage,
         result,
         name,

@@ -23,8 +23,9 @@ mod function_heads;
 mod targets;
 
 pub use attributes::{
-    Attribute, Kept, Place, attribute_group_at, call_attributes_at, definition_attributes_at,
-    head_attribute_at, is_attribute_word, parameter_attribute_at, parameter_attributes_at,
+    Attribute, AttributePlace, Kept, attribute_group_at, call_attributes_at,
+    definition_attributes_at, head_attribute_at, is_attribute_word, parameter_attribute_at,
+    parameter_attributes_at,
 };
 pub use function_heads::{
     Role, comes_qualifier, end_of_none_at, head_at, is_local, is_qualifier, linkage_by,

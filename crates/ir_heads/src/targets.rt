@@ -2,14 +2,14 @@
 //! "Source Filename", "Comdats").
 
 ghost use Rattle.std.specs.Prelude.{◌≡◌, Option, Some, None, MatchOption};
-ghost use Rattle.ir_read.specs.Readers.{Gives, token_at};
+ghost use Rattle.ir_read.specs.Readers.{Returns, token_at};
 ghost use Rattle.ir_read.specs.Classes.{one_of_at, itself};
 ghost use Rattle.ir_read.specs.declared.raw.Item.TheVariants as items;
 ghost use Rattle.ir_heads.specs.Targets.{STRING, until, after, has_64_bits, fits_item, fits_layout, is_layout};
 ghost use Rattle.ir_heads.specs.TargetsAt.{layout_line_at, triple_line_at, source_line_at, comdat_line_at};
 
-use ir_lex::Head;
-use ir_read::{Fault, Name, ReadError, TokenFault, Tokens, done, expect, refusal};
+use ir_lex::TokenKind;
+use ir_read::{Fault, Name, ReaderError, TokenFault, Tokens, done, expect, refusal};
 use std::alloc::Global;
 
 /// What stands before the first separator.
@@ -77,20 +77,20 @@ fn fits_layout(text: &[u8]) -> bool
 
 /// Takes the string of a layout that is supported; another string is refused.
 #[tactic(auto, unfolding(crate::specs::Targets::is_layout))]
-fn layout_at(alloc: Global, tokens: &mut Tokens) -> Result<Name, ReadError>
-    ensures { Gives (λ x. (x, tokens.new)) result (token_at is_layout tokens.old) }
+fn layout_at(alloc: Global, tokens: &mut Tokens) -> Result<Name, ReaderError>
+    ensures { Returns (λ x. (x, tokens.new)) result (token_at is_layout tokens.old) }
 {
     let left = tokens.left();
     match tokens.take() {
-        None => Err(ReadError::Fault(Fault {
+        None => Err(ReaderError::Fault(Fault {
             left,
             kind: TokenFault::Syntax,
         })),
         Some(t) => {
-            if !t.head.is(Head::Str) {
-                return Err(ReadError::Fault(Fault {
+            if !t.kind.is(TokenKind::Str) {
+                return Err(ReaderError::Fault(Fault {
                     left,
-                    kind: refusal(t.head),
+                    kind: refusal(t.kind),
                 }));
             }
             let content = t.content(alloc)?;
@@ -98,7 +98,7 @@ fn layout_at(alloc: Global, tokens: &mut Tokens) -> Result<Name, ReadError>
                 let name = Name::of(alloc, &t)?;
                 done(name)
             } else {
-                Err(ReadError::Fault(Fault {
+                Err(ReaderError::Fault(Fault {
                     left,
                     kind: TokenFault::Profile,
                 }))
@@ -108,23 +108,23 @@ fn layout_at(alloc: Global, tokens: &mut Tokens) -> Result<Name, ReadError>
 }
 
 #[tactic(auto, unfolding(ir_read::specs::Rules::is_among))]
-fn string_at(alloc: Global, tokens: &mut Tokens) -> Result<Name, ReadError>
-    ensures { Gives (λ x. (x, tokens.new)) result (one_of_at STRING itself tokens.old) }
+fn string_at(alloc: Global, tokens: &mut Tokens) -> Result<Name, ReaderError>
+    ensures { Returns (λ x. (x, tokens.new)) result (one_of_at STRING itself tokens.old) }
 {
     let left = tokens.left();
     match tokens.take() {
-        None => Err(ReadError::Fault(Fault {
+        None => Err(ReaderError::Fault(Fault {
             left,
             kind: TokenFault::Syntax,
         })),
         Some(t) => {
-            if t.head.is(Head::Str) {
+            if t.kind.is(TokenKind::Str) {
                 let name = Name::of(alloc, &t)?;
                 done(name)
             } else {
-                Err(ReadError::Fault(Fault {
+                Err(ReaderError::Fault(Fault {
                     left,
-                    kind: refusal(t.head),
+                    kind: refusal(t.kind),
                 }))
             }
         }
@@ -133,42 +133,42 @@ fn string_at(alloc: Global, tokens: &mut Tokens) -> Result<Name, ReadError>
 
 /// Reads what follows `target` where that is `datalayout`: its string.
 #[tactic(auto, unfolding(crate::specs::TargetsAt::layout_line_at))]
-pub fn layout_line_at(alloc: Global, tokens: &mut Tokens) -> Result<Name, ReadError>
-    ensures { Gives (λ x. (items.Datalayout x, tokens.new)) result (layout_line_at tokens.old) }
+pub fn layout_line_at(alloc: Global, tokens: &mut Tokens) -> Result<Name, ReaderError>
+    ensures { Returns (λ x. (items.Datalayout x, tokens.new)) result (layout_line_at tokens.old) }
 {
-    expect(Head::Datalayout, tokens)?;
-    expect(Head::Equals, tokens)?;
+    expect(TokenKind::Datalayout, tokens)?;
+    expect(TokenKind::Equals, tokens)?;
     layout_at(alloc, tokens)
 }
 
 /// Reads what follows `target` where that is `triple`: its string, as in
 /// `target triple = "x86_64-pc-linux-gnu"`.
 #[tactic(auto, unfolding(crate::specs::TargetsAt::triple_line_at))]
-pub fn triple_line_at(alloc: Global, tokens: &mut Tokens) -> Result<Name, ReadError>
-    ensures { Gives (λ x. (items.Triple x, tokens.new)) result (triple_line_at tokens.old) }
+pub fn triple_line_at(alloc: Global, tokens: &mut Tokens) -> Result<Name, ReaderError>
+    ensures { Returns (λ x. (items.Triple x, tokens.new)) result (triple_line_at tokens.old) }
 {
-    expect(Head::Triple, tokens)?;
-    expect(Head::Equals, tokens)?;
+    expect(TokenKind::Triple, tokens)?;
+    expect(TokenKind::Equals, tokens)?;
     string_at(alloc, tokens)
 }
 
 /// Reads the name of the source, and drops it: `source_filename = "t.c"`.
 #[tactic(auto, unfolding(crate::specs::TargetsAt::source_line_at))]
-pub fn source_line_at(tokens: &mut Tokens) -> Result<(), ReadError>
-    ensures { Gives (λ x. (tt, tokens.new)) result (source_line_at tokens.old) }
+pub fn source_line_at(tokens: &mut Tokens) -> Result<(), ReaderError>
+    ensures { Returns (λ x. (tt, tokens.new)) result (source_line_at tokens.old) }
 {
-    expect(Head::SourceFilename, tokens)?;
-    expect(Head::Equals, tokens)?;
-    expect(Head::Str, tokens)
+    expect(TokenKind::SourceFilename, tokens)?;
+    expect(TokenKind::Equals, tokens)?;
+    expect(TokenKind::Str, tokens)
 }
 
 /// Reads a comdat, and drops it: `$f = comdat any`.
 #[tactic(auto, unfolding(crate::specs::TargetsAt::comdat_line_at))]
-pub fn comdat_line_at(tokens: &mut Tokens) -> Result<(), ReadError>
-    ensures { Gives (λ x. (tt, tokens.new)) result (comdat_line_at tokens.old) }
+pub fn comdat_line_at(tokens: &mut Tokens) -> Result<(), ReaderError>
+    ensures { Returns (λ x. (tt, tokens.new)) result (comdat_line_at tokens.old) }
 {
-    expect(Head::ComdatName, tokens)?;
-    expect(Head::Equals, tokens)?;
-    expect(Head::Comdat, tokens)?;
-    expect(Head::Any, tokens)
+    expect(TokenKind::ComdatName, tokens)?;
+    expect(TokenKind::Equals, tokens)?;
+    expect(TokenKind::Comdat, tokens)?;
+    expect(TokenKind::Any, tokens)
 }

@@ -2,9 +2,9 @@
 use Rattle.std.proofs.Common.{◌≡◌, ℕ, max, Bool, true, false, cond, ◌||◌, ◌&&◌, not, nat_eq, nat_lt, Option, Some, None, List, [], ◌∷◌, Result, Ok, Err, refl, sym, ap, subst, ◌∙◌, arith, ◌^◌, ◌≤◌, ◌⊎◌, inl, inr}
 use Rattle.std.proofs.Math.Nat.{pow-le-pow_right}
 use Rattle.std.specs.Prelude.{codes}
-use Rattle.ir_lex.specs.declared.head.Head.TheVariants as heads
-use Rattle.ir_lex.specs.declared.token.Kind.TheVariants as kinds
-use Rattle.ir_lex.specs.Heads.{number}
+use Rattle.ir_lex.specs.declared.token_kind.TokenKind.TheVariants as kinds
+use Rattle.ir_lex.specs.declared.token.TokenForm.TheVariants as forms
+use Rattle.ir_lex.specs.TokenKinds.{number}
 use Rattle.ir_lex.specs.Tok.{Tok}
 use Rattle.ir_tree.specs.declared.operand.Reg.TheVariants.{Ptr}
 use Rattle.ir_read.specs.Alphabet.{AllReal, among, contains}
@@ -39,10 +39,10 @@ use Rattle.ir_operands.proofs.ValueRules.{operand_rule, argument_rule, pointer_r
 -- ---- alloca
 
 abbrev zero : Tok
-zero = sample kinds.Number heads.Number (codes "0")
+zero = sample forms.Number kinds.Number (codes "0")
 
 abbrev one : Tok
-one = sample kinds.Number heads.Number (codes "1")
+one = sample forms.Number kinds.Number (codes "1")
 
 -- an integer has at least one bit, so 1 is a literal of it
 one_below : (w : ℕ) → nat_lt 1 (2 ^ max 1 w) ≡ true
@@ -68,7 +68,7 @@ module _ (fits : ℕ → Bool) (some : fits 1 ≡ true) where
 
   within : (w : ℕ) (t : Tok) → among tokens NUMBER t ≡ true → fitting_count fits w t ≡ None → IsWithin tokens NUMBER (fitting_count fits w) t
   within w t p q =
-      let e : number t.head ≡ number heads.Number = only (number t.head) (number heads.Number) p in
+      let e : number t.kind ≡ number kinds.Number = only (number t.kind) (number kinds.Number) p in
       record { writes = ap (contains NUMERALS) e; other = one; means = 1; alike = sym e; has = fits_one w; real = number_real }
 
   fitting_rule : (w : ℕ) → Rule tokens (count_in fits w) (count_in fits w) (token_at (is_count fits w)) NUMBER [] false
@@ -95,7 +95,7 @@ module _ (fits : ℕ → Bool) (some : fits 1 ≡ true) where
   unfolding is_valued
   count_wide w t n e = by_class (among tokens NUMBER t) e
     where
-      by_class : (b : Bool) → counted_if b (fitting_count fits w t) (refusal (number t.head)) ≡ Ok n → counted_if b (fitting_count (any_slots pointer) w t) (refusal (number t.head)) ≡ Ok n
+      by_class : (b : Bool) → counted_if b (fitting_count fits w t) (refusal (number t.kind)) ≡ Ok n → counted_if b (fitting_count (any_slots pointer) w t) (refusal (number t.kind)) ≡ Ok n
       by_class true d = ap in_range (fewer (count_of (max 1 w) t) n (ranged (fitting_count fits w t) n d))
       by_class false d = absurd cc
 
@@ -113,7 +113,7 @@ module _ (fits : ℕ → Bool) (some : fits 1 ≡ true) where
       by_test m true d = refl
       by_test m false d = absurd cc
 
-      by_class : (b : Bool) (o : Option ℕ) → counted_if b (fitting fits o) (refusal (number t.head)) ≡ Ok n → b && passes fits o ≡ false
+      by_class : (b : Bool) (o : Option ℕ) → counted_if b (fitting fits o) (refusal (number t.kind)) ≡ Ok n → b && passes fits o ≡ false
       by_class true None d = refl
       by_class true (Some m) d = by_test m (fits m) d
       by_class false o d = refl
@@ -131,7 +131,7 @@ module _ (fits : ℕ → Bool) (some : fits 1 ≡ true) where
       by_test k true d m = d
       by_test k false d m = absurd cc
 
-      by_class : (b : Bool) (o : Option ℕ) → counted_if b (fitting (any_slots pointer) o) (refusal (number t.head)) ≡ Ok n → b && passes fits o ≡ false → counted_if b (fitting fits o) (refusal (number t.head)) ≡ Ok n
+      by_class : (b : Bool) (o : Option ℕ) → counted_if b (fitting (any_slots pointer) o) (refusal (number t.kind)) ≡ Ok n → b && passes fits o ≡ false → counted_if b (fitting fits o) (refusal (number t.kind)) ≡ Ok n
       by_class true None d m = d
       by_class true (Some k) d m = by_test k (fits k) d m
       by_class false o d m = d
@@ -159,7 +159,7 @@ module _ (fits : ℕ → Bool) (some : fits 1 ≡ true) where
     where
       by_class : (b : Bool) (o : Option ℕ) → among tokens NUMBER t ≡ b → count_of (max 1 w) t ≡ o → b && passes fits o ≡ true → (more : List Tok) × (n : ℕ) × count_in (any_slots pointer) w (t ∷ more) n × AllReal tokens more
       by_class true None p q d = absurd cc
-      by_class true (Some n) p q d = ([], n, ap (λ (c : Bool). counted_if c (fitting_count (any_slots pointer) w t) (refusal (number t.head))) p ∙ ap (λ (o : Option ℕ). in_range (fitting (any_slots pointer) o)) q, tt)
+      by_class true (Some n) p q d = ([], n, ap (λ (c : Bool). counted_if c (fitting_count (any_slots pointer) w t) (refusal (number t.kind))) p ∙ ap (λ (o : Option ℕ). in_range (fitting (any_slots pointer) o)) q, tt)
       by_class false o p q d = absurd cc
 
   -- what is too many is a literal
@@ -216,7 +216,7 @@ unfolding attaching attaching_at
 attaching_rule = rules.seq tokens attached_rule (λ _. rules.nothing tokens _) refl
 
 abbrev INDEX : List ℕ
-INDEX = number heads.Meta ∷ number heads.Bang ∷ REG
+INDEX = number kinds.Meta ∷ number kinds.Bang ∷ REG
 
 behind_comma_rule : (s : Bool) → Rule tokens (behind_comma memory_shape s) (behind_comma any_shape s) (behind_comma_at s) INDEX PAREN false
 behind_comma_rule true = rules.broader tokens INDEX PAREN attaching_rule refl refl
@@ -229,9 +229,9 @@ further_rule s = rules.seq tokens comma_rule (λ _. behind_comma_rule s) refl
 more_rule : Rule tokens (Chain anywhere (further memory_shape) false) (Chain anywhere (further any_shape) false) (chain_at anywhere begins further_at false) COMMA AFTER true
 more_rule = record {
   law = chain_lawful tokens anywhere begins begins (λ _. among tokens PAREN) (among tokens AFTER) (further memory_shape) (further any_shape) further_at (λ s. (further_rule s).law) (λ s t u n m. ap (contains COMMA) (sym m)) (λ s t d e. e)
-      (λ s next front a g t p q. apart_from PAREN COMMA refl (number t.head) p q)
-      (λ s t p. within_of PAREN AFTER refl (number t.head) p)
-      (λ s t d p. within_of COMMA AFTER refl (number t.head) p)
+      (λ s next front a g t p q. apart_from PAREN COMMA refl (number t.kind) p q)
+      (λ s t p. within_of PAREN AFTER refl (number t.kind) p)
+      (λ s t d p. within_of COMMA AFTER refl (number t.kind) p)
       (λ s. ([], [], (refl, refl), tt)) false;
 }
 
@@ -240,7 +240,7 @@ unfolding indices indices_at
 indices_rule = rules.seq tokens more_rule (λ _. rules.nothing tokens _) refl
 
 abbrev pub STEPPED : List ℕ
-STEPPED = number heads.Inbounds ∷ number heads.Nuw ∷ number heads.Nusw ∷ SHAPE
+STEPPED = number kinds.Inbounds ∷ number kinds.Nuw ∷ number kinds.Nusw ∷ SHAPE
 
 pub addressing_rule : Rule tokens (addressing memory_shape) (addressing any_shape) addressing_at STEPPED AFTER false
 unfolding addressing addressing_at

@@ -1,6 +1,6 @@
 -- What stands behind commas, each read as one.
 use Rattle.std.proofs.Common.{◌≡◌, ℕ, Bool, List, Result, Ok, Err, refl, ◌∙◌}
-use Rattle.ir_lex.specs.declared.head.Head.TheVariants as heads
+use Rattle.ir_lex.specs.declared.token_kind.TokenKind.TheVariants as kinds
 use Rattle.ir_lex.specs.Tok.{Tok}
 use Rattle.ir_tree.specs.declared.instr.BinaryOp.{BinaryOp}
 use Rattle.ir_tree.specs.declared.instr.Flags.{Flags}
@@ -29,38 +29,38 @@ pub on_two_is : (op : BinaryOp) (f : Flags) (ts : List Tok) → on_two_at op f t
 unfolding on_two_at second_at
 on_two_is op f ts = by_width (integer_at ts)
   where
-    by_left : (w : ℕ) (t : Result (Operand × List Tok) Fault) → follow t (λ left. the_at heads.Comma >>= λ _. operand_at (Int w) >>= λ right. done (instrs.Binary op f w left right)) ≡ follow t (λ left. second_at (Int w) >>= λ right. done (instrs.Binary op f w left right))
-    by_left w (Ok x) = grouped (λ _. operand_at (Int w)) (λ right. done (instrs.Binary op f w x.0 right)) (the_at heads.Comma x.1)
+    by_left : (w : ℕ) (t : Result (Operand × List Tok) Fault) → follow t (λ left. the_at kinds.Comma >>= λ _. operand_at (Int w) >>= λ right. done (instrs.Binary op f w left right)) ≡ follow t (λ left. second_at (Int w) >>= λ right. done (instrs.Binary op f w left right))
+    by_left w (Ok x) = grouped (λ _. operand_at (Int w)) (λ right. done (instrs.Binary op f w x.0 right)) (the_at kinds.Comma x.1)
     by_left w (Err e) = refl
 
-    by_width : (t : Result (ℕ × List Tok) Fault) → follow t (λ w. operand_at (Int w) >>= λ left. the_at heads.Comma >>= λ _. operand_at (Int w) >>= λ right. done (instrs.Binary op f w left right)) ≡ follow t (λ w. operand_at (Int w) >>= λ left. second_at (Int w) >>= λ right. done (instrs.Binary op f w left right))
+    by_width : (t : Result (ℕ × List Tok) Fault) → follow t (λ w. operand_at (Int w) >>= λ left. the_at kinds.Comma >>= λ _. operand_at (Int w) >>= λ right. done (instrs.Binary op f w left right)) ≡ follow t (λ w. operand_at (Int w) >>= λ left. second_at (Int w) >>= λ right. done (instrs.Binary op f w left right))
     by_width (Ok x) = by_left x.0 (operand_at (Int x.0) x.1)
     by_width (Err e) = refl
 
-pub comparing_is : (ts : List Tok) → comparing_at ts ≡ follow (maybe_at heads.Samesign ts) (λ _. one_of_at PREDICATES predicate_of >>= λ p. reg_at >>= λ r. operand_at r >>= λ left. second_at r >>= λ right. done (instrs.Icmp p r left right))
+pub comparing_is : (ts : List Tok) → comparing_at ts ≡ follow (maybe_at kinds.Samesign ts) (λ _. one_of_at PREDICATES predicate_of >>= λ p. reg_at >>= λ r. operand_at r >>= λ left. second_at r >>= λ right. done (instrs.Icmp p r left right))
 unfolding comparing_at second_at
-comparing_is ts = by_sign (maybe_at heads.Samesign ts)
+comparing_is ts = by_sign (maybe_at kinds.Samesign ts)
   where
-    by_left : (p : Predicate) (r : Reg) (t : Result (Operand × List Tok) Fault) → follow t (λ left. the_at heads.Comma >>= λ _. operand_at r >>= λ right. done (instrs.Icmp p r left right)) ≡ follow t (λ left. second_at r >>= λ right. done (instrs.Icmp p r left right))
-    by_left p r (Ok x) = grouped (λ _. operand_at r) (λ right. done (instrs.Icmp p r x.0 right)) (the_at heads.Comma x.1)
+    by_left : (p : Predicate) (r : Reg) (t : Result (Operand × List Tok) Fault) → follow t (λ left. the_at kinds.Comma >>= λ _. operand_at r >>= λ right. done (instrs.Icmp p r left right)) ≡ follow t (λ left. second_at r >>= λ right. done (instrs.Icmp p r left right))
+    by_left p r (Ok x) = grouped (λ _. operand_at r) (λ right. done (instrs.Icmp p r x.0 right)) (the_at kinds.Comma x.1)
     by_left p r (Err e) = refl
 
-    by_type : (p : Predicate) (t : Result (Reg × List Tok) Fault) → follow t (λ r. operand_at r >>= λ left. the_at heads.Comma >>= λ _. operand_at r >>= λ right. done (instrs.Icmp p r left right)) ≡ follow t (λ r. operand_at r >>= λ left. second_at r >>= λ right. done (instrs.Icmp p r left right))
+    by_type : (p : Predicate) (t : Result (Reg × List Tok) Fault) → follow t (λ r. operand_at r >>= λ left. the_at kinds.Comma >>= λ _. operand_at r >>= λ right. done (instrs.Icmp p r left right)) ≡ follow t (λ r. operand_at r >>= λ left. second_at r >>= λ right. done (instrs.Icmp p r left right))
     by_type p (Ok x) = by_left p x.0 (operand_at x.0 x.1)
     by_type p (Err e) = refl
 
-    by_predicate : (t : Result (Predicate × List Tok) Fault) → follow t (λ p. reg_at >>= λ r. operand_at r >>= λ left. the_at heads.Comma >>= λ _. operand_at r >>= λ right. done (instrs.Icmp p r left right)) ≡ follow t (λ p. reg_at >>= λ r. operand_at r >>= λ left. second_at r >>= λ right. done (instrs.Icmp p r left right))
+    by_predicate : (t : Result (Predicate × List Tok) Fault) → follow t (λ p. reg_at >>= λ r. operand_at r >>= λ left. the_at kinds.Comma >>= λ _. operand_at r >>= λ right. done (instrs.Icmp p r left right)) ≡ follow t (λ p. reg_at >>= λ r. operand_at r >>= λ left. second_at r >>= λ right. done (instrs.Icmp p r left right))
     by_predicate (Ok x) = by_type x.0 (reg_at x.1)
     by_predicate (Err e) = refl
 
-    by_sign : (t : Result (Bool × List Tok) Fault) → follow t (λ _. one_of_at PREDICATES predicate_of >>= λ p. reg_at >>= λ r. operand_at r >>= λ left. the_at heads.Comma >>= λ _. operand_at r >>= λ right. done (instrs.Icmp p r left right)) ≡ follow t (λ _. one_of_at PREDICATES predicate_of >>= λ p. reg_at >>= λ r. operand_at r >>= λ left. second_at r >>= λ right. done (instrs.Icmp p r left right))
+    by_sign : (t : Result (Bool × List Tok) Fault) → follow t (λ _. one_of_at PREDICATES predicate_of >>= λ p. reg_at >>= λ r. operand_at r >>= λ left. the_at kinds.Comma >>= λ _. operand_at r >>= λ right. done (instrs.Icmp p r left right)) ≡ follow t (λ _. one_of_at PREDICATES predicate_of >>= λ p. reg_at >>= λ r. operand_at r >>= λ left. second_at r >>= λ right. done (instrs.Icmp p r left right))
     by_sign (Ok x) = by_predicate (one_of_at PREDICATES predicate_of x.1)
     by_sign (Err e) = refl
 
 -- an address behind a comma, and what follows it
-pointed_then : {B : Type 0} (k : Operand → Reader Tok B) (ts : List Tok) → follow (the_at heads.Comma ts) (λ _. pointer_at >>= λ _. operand_at Ptr >>= k) ≡ follow (pointed_at ts) k
+pointed_then : {B : Type 0} (k : Operand → Reader Tok B) (ts : List Tok) → follow (the_at kinds.Comma ts) (λ _. pointer_at >>= λ _. operand_at Ptr >>= k) ≡ follow (pointed_at ts) k
 unfolding pointed_at
-pointed_then {B} k ts = by_comma (the_at heads.Comma ts)
+pointed_then {B} k ts = by_comma (the_at kinds.Comma ts)
   where
     by_pointer : (r : Result (Unit {0} × List Tok) Fault) → follow r (λ _. operand_at Ptr >>= k) ≡ follow (follow r (λ _. operand_at Ptr)) k
     by_pointer (Ok x) = refl
@@ -74,7 +74,7 @@ pub loading_is : (ts : List Tok) → loading_at ts ≡ follow (scalar_at ts) (λ
 unfolding loading_at
 loading_is ts = by_type (scalar_at ts)
   where
-    by_type : (t : Result (Reg × List Tok) Fault) → follow t (λ r. the_at heads.Comma >>= λ _. pointer_at >>= λ _. operand_at Ptr >>= λ address. align_at >>= λ n. done (instrs.Load r address n)) ≡ follow t (λ r. pointed_at >>= λ address. align_at >>= λ n. done (instrs.Load r address n))
+    by_type : (t : Result (Reg × List Tok) Fault) → follow t (λ r. the_at kinds.Comma >>= λ _. pointer_at >>= λ _. operand_at Ptr >>= λ address. align_at >>= λ n. done (instrs.Load r address n)) ≡ follow t (λ r. pointed_at >>= λ address. align_at >>= λ n. done (instrs.Load r address n))
     by_type (Ok x) = pointed_then (λ address. align_at >>= λ n. done (instrs.Load x.0 address n)) x.1
     by_type (Err e) = refl
 
@@ -115,11 +115,11 @@ unfolding selecting_at arm_at
 selecting_is ts = by_width (bit_at ts)
   where
     by_one : (condition : Operand) (t : Result (Argument × List Tok) Fault) → follow t (other_at condition) ≡ follow t (λ one. arm_at >>= λ other. done (instrs.Select condition one other))
-    by_one condition (Ok x) = grouped (λ _. argument_at) (λ other. done (instrs.Select condition x.0 other)) (the_at heads.Comma x.1)
+    by_one condition (Ok x) = grouped (λ _. argument_at) (λ other. done (instrs.Select condition x.0 other)) (the_at kinds.Comma x.1)
     by_one condition (Err e) = refl
 
     by_condition : (t : Result (Operand × List Tok) Fault) → follow t arms_at ≡ follow t (λ condition. arm_at >>= λ one. arm_at >>= λ other. done (instrs.Select condition one other))
-    by_condition (Ok x) = grouped (λ _. argument_at) (other_at x.0) (the_at heads.Comma x.1) ∙ by_one x.0 (arm_at x.1)
+    by_condition (Ok x) = grouped (λ _. argument_at) (other_at x.0) (the_at kinds.Comma x.1) ∙ by_one x.0 (arm_at x.1)
     by_condition (Err e) = refl
 
     by_width : (t : Result (ℕ × List Tok) Fault) → follow t (λ w. operand_at (Int w) >>= arms_at) ≡ follow t (λ w. operand_at (Int w) >>= λ condition. arm_at >>= λ one. arm_at >>= λ other. done (instrs.Select condition one other))
@@ -130,12 +130,12 @@ pub choosing_is : (ts : List Tok) → choosing_at ts ≡ follow (bit_at ts) (λ 
 unfolding branch_at
 choosing_is ts = by_width (bit_at ts)
   where
-    by_one : (condition : Operand) (t : Result (Tok × List Tok) Fault) → follow t (λ if_true. the_at heads.Comma >>= λ _. target_at >>= λ if_false. done (terminators.Branch condition if_true if_false)) ≡ follow t (λ if_true. branch_at >>= λ if_false. done (terminators.Branch condition if_true if_false))
-    by_one condition (Ok x) = grouped (λ _. target_at) (λ if_false. done (terminators.Branch condition x.0 if_false)) (the_at heads.Comma x.1)
+    by_one : (condition : Operand) (t : Result (Tok × List Tok) Fault) → follow t (λ if_true. the_at kinds.Comma >>= λ _. target_at >>= λ if_false. done (terminators.Branch condition if_true if_false)) ≡ follow t (λ if_true. branch_at >>= λ if_false. done (terminators.Branch condition if_true if_false))
+    by_one condition (Ok x) = grouped (λ _. target_at) (λ if_false. done (terminators.Branch condition x.0 if_false)) (the_at kinds.Comma x.1)
     by_one condition (Err e) = refl
 
     by_condition : (t : Result (Operand × List Tok) Fault) → follow t branches_at ≡ follow t (λ condition. branch_at >>= λ if_true. branch_at >>= λ if_false. done (terminators.Branch condition if_true if_false))
-    by_condition (Ok x) = grouped (λ _. target_at) (λ if_true. the_at heads.Comma >>= λ _. target_at >>= λ if_false. done (terminators.Branch x.0 if_true if_false)) (the_at heads.Comma x.1) ∙ by_one x.0 (branch_at x.1)
+    by_condition (Ok x) = grouped (λ _. target_at) (λ if_true. the_at kinds.Comma >>= λ _. target_at >>= λ if_false. done (terminators.Branch x.0 if_true if_false)) (the_at kinds.Comma x.1) ∙ by_one x.0 (branch_at x.1)
     by_condition (Err e) = refl
 
     by_width : (t : Result (ℕ × List Tok) Fault) → follow t (λ w. operand_at (Int w) >>= branches_at) ≡ follow t (λ w. operand_at (Int w) >>= λ condition. branch_at >>= λ if_true. branch_at >>= λ if_false. done (terminators.Branch condition if_true if_false))
@@ -145,7 +145,7 @@ choosing_is ts = by_width (bit_at ts)
 -- the cases in their brackets, and what they are of
 bracketed : (w : ℕ) (value : Operand) (default : Tok) (ts : List Tok) → switched_at w value default ts ≡ follow (bracketed_cases_at ts) (λ cases. done (terminators.Switch w value default cases))
 unfolding bracketed_cases_at
-bracketed w value default ts = by_bracket (the_at heads.OpenBracket ts)
+bracketed w value default ts = by_bracket (the_at kinds.OpenBracket ts)
   where
     by_end : (cases : List Case) (t : Result (Unit {0} × List Tok) Fault) → follow t (λ _. done (terminators.Switch w value default cases)) ≡ follow (follow t (λ _. done cases)) (λ cs. done (terminators.Switch w value default cs))
     by_end cases (Ok x) = refl
@@ -168,7 +168,7 @@ switching_is ts = by_width (integer_at ts)
     by_default w value (Err e) = refl
 
     by_value : (w : ℕ) (t : Result (Operand × List Tok) Fault) → follow t (switches_at w) ≡ follow t (λ value. branch_at >>= λ default. bracketed_cases_at >>= λ cases. done (terminators.Switch w value default cases))
-    by_value w (Ok x) = grouped (λ _. target_at) (switched_at w x.0) (the_at heads.Comma x.1) ∙ by_default w x.0 (branch_at x.1)
+    by_value w (Ok x) = grouped (λ _. target_at) (switched_at w x.0) (the_at kinds.Comma x.1) ∙ by_default w x.0 (branch_at x.1)
     by_value w (Err e) = refl
 
     by_width : (t : Result (ℕ × List Tok) Fault) → follow t (λ w. operand_at (Int w) >>= switches_at w) ≡ follow t (λ w. operand_at (Int w) >>= λ value. branch_at >>= λ default. bracketed_cases_at >>= λ cases. done (terminators.Switch w value default cases))

@@ -1,6 +1,6 @@
 -- What a literal means as the count of an `alloca`.
 use Rattle.std.proofs.Common.{◌≡◌, ℕ, max, ◌<◌, Bool, true, false, cond, ◌&&◌, not, Option, Some, None, Result, Ok, Err, ap, ◌∙◌, refl, arith}
-use Rattle.ir_lex.specs.Heads.{number}
+use Rattle.ir_lex.specs.TokenKinds.{number}
 use Rattle.ir_lex.specs.Tok.{Tok}
 use Rattle.ir_read.specs.Alphabet.{among}
 use Rattle.ir_read.specs.declared.fault.TokenFault.{TokenFault}
@@ -20,7 +20,7 @@ unfolding count_means is_valued
 count_is fits w t o a p e =
     let same : max 1 w ≡ w = omega (arith, p) in
     let c : count_of (max 1 w) t ≡ o = ap (λ (v : ℕ). counted v t.text) same ∙ e in
-    ap (λ (b : Bool). cond (b && passes fits (count_of (max 1 w) t)) (Err Limit) (cond b (in_range (fitting fits (count_of (max 1 w) t))) (Err (refusal (number t.head))))) a
+    ap (λ (b : Bool). cond (b && passes fits (count_of (max 1 w) t)) (Err Limit) (cond b (in_range (fitting fits (count_of (max 1 w) t))) (Err (refusal (number t.kind))))) a
     ∙ ap (λ (x : Option ℕ). cond (passes fits x) (Err Limit) (in_range (fitting fits x))) c
     ∙ by_count o
   where

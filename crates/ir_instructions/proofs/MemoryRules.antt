@@ -1,7 +1,7 @@
 -- The readers of loads and stores read them.
 use Rattle.std.proofs.Common.{ℕ, true, false, None, List, [], ◌∷◌, refl}
-use Rattle.ir_lex.specs.declared.head.Head.TheVariants as heads
-use Rattle.ir_lex.specs.Heads.{number}
+use Rattle.ir_lex.specs.declared.token_kind.TokenKind.TheVariants as kinds
+use Rattle.ir_lex.specs.TokenKinds.{number}
 use Rattle.ir_tree.specs.declared.operand.Reg.TheVariants.{Ptr}
 use Rattle.ir_read.specs.Rules.{Rule}
 use Rattle.ir_read.proofs.Rules as rules
@@ -18,9 +18,9 @@ use Rattle.ir_read.proofs.Singles.{comma_rule, align_rule}
 use Rattle.ir_operands.proofs.ValueRules.{pointer_rule, operand_rule}
 
 abbrev pub AFTER : List ℕ
-AFTER = number heads.OpenParen ∷ number heads.Comma ∷ []
+AFTER = number kinds.OpenParen ∷ number kinds.Comma ∷ []
 
-pub aligned_rule : Rule tokens aligned aligned aligned_at (number heads.Align ∷ number heads.Meta ∷ number heads.Bang ∷ []) AFTER false
+pub aligned_rule : Rule tokens aligned aligned aligned_at (number kinds.Align ∷ number kinds.Meta ∷ number kinds.Bang ∷ []) AFTER false
 unfolding aligned aligned_at
 aligned_rule = rules.broader tokens _ AFTER
     (rules.alt tokens ALIGN (rules.seq tokens align_rule (λ _. rules.seq tokens alignment_rule (λ _. rules.seq tokens attachments_rule (λ _. rules.nothing tokens _) refl) refl) refl)

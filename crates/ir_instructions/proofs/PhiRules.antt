@@ -1,7 +1,7 @@
 -- The readers of phis read them.
 use Rattle.std.proofs.Common.{ℕ, Bool, true, false, List, [], ◌∷◌, refl, sym, ap}
-use Rattle.ir_lex.specs.declared.head.Head.TheVariants as heads
-use Rattle.ir_lex.specs.Heads.{number}
+use Rattle.ir_lex.specs.declared.token_kind.TokenKind.TheVariants as kinds
+use Rattle.ir_lex.specs.TokenKinds.{number}
 use Rattle.ir_tree.specs.declared.operand.Reg.{Reg}
 use Rattle.ir_read.specs.Alphabet.{among, contains}
 use Rattle.ir_read.specs.Chained.{Chain, chain_at}
@@ -23,7 +23,7 @@ use Rattle.ir_read.proofs.Singles.{comma_rule, open_bracket_rule, close_bracket_
 use Rattle.ir_operands.proofs.ValueRules.{operand_rule}
 
 abbrev pub BRACKET : List ℕ
-BRACKET = number heads.OpenBracket ∷ []
+BRACKET = number kinds.OpenBracket ∷ []
 
 pub incoming_rule : (r : Reg) → Rule tokens (incoming memory_shape r) (incoming any_shape r) (incoming_at r) BRACKET [] false
 unfolding incoming incoming_at
@@ -38,7 +38,7 @@ unfolding entering entering_at
 entering_rule r = rules.seq tokens (incoming_rule r) (λ _. rules.nothing tokens _) refl
 
 abbrev ENTRY : List ℕ
-ENTRY = number heads.Meta ∷ number heads.Bang ∷ number heads.OpenBracket ∷ []
+ENTRY = number kinds.Meta ∷ number kinds.Bang ∷ number kinds.OpenBracket ∷ []
 
 behind_comma_rule : (r : Reg) (s : Bool) → Rule tokens (behind_comma memory_shape r s) (behind_comma any_shape r s) (behind_comma_at r s) ENTRY PAREN false
 behind_comma_rule r true = rules.broader tokens ENTRY PAREN attaching_rule refl refl
@@ -49,14 +49,14 @@ unfolding further further_at
 further_rule r s = rules.seq tokens comma_rule (λ _. behind_comma_rule r s) refl
 
 abbrev AFTER : List ℕ
-AFTER = number heads.OpenParen ∷ number heads.Comma ∷ []
+AFTER = number kinds.OpenParen ∷ number kinds.Comma ∷ []
 
 more_rule : (r : Reg) → Rule tokens (Chain anywhere (further memory_shape r) false) (Chain anywhere (further any_shape r) false) (chain_at anywhere begins (further_at r) false) COMMA AFTER true
 more_rule r = record {
   law = chain_lawful tokens anywhere begins begins (λ _. among tokens PAREN) (among tokens AFTER) (further memory_shape r) (further any_shape r) (further_at r) (λ s. (further_rule r s).law) (λ s t u n m. ap (contains COMMA) (sym m)) (λ s t d e. e)
-      (λ s next front a g t p q. apart_from PAREN COMMA refl (number t.head) p q)
-      (λ s t p. within_of PAREN AFTER refl (number t.head) p)
-      (λ s t d p. within_of COMMA AFTER refl (number t.head) p)
+      (λ s next front a g t p q. apart_from PAREN COMMA refl (number t.kind) p q)
+      (λ s t p. within_of PAREN AFTER refl (number t.kind) p)
+      (λ s t d p. within_of COMMA AFTER refl (number t.kind) p)
       (λ s. ([], [], (refl, refl), tt)) false;
 }
 

@@ -1,7 +1,7 @@
 -- `alloca` and `getelementptr` (LangRef, "alloca Instruction", "getelementptr Instruction"), over what spells a shape.
 use Rattle.std.specs.Prelude.{ℕ, ◌*◌, max, nat_eq, nat_le, Bool, true, false, ◌&&◌, ◌||◌, if◌then◌else◌, Option, Some, None, Result, List, [], ◌∷◌, ◌++◌}
 use Rattle.std.specs.List.{fold}
-use Rattle.ir_lex.specs.declared.head.Head.TheVariants as heads
+use Rattle.ir_lex.specs.declared.token_kind.TokenKind.TheVariants as kinds
 use Rattle.ir_lex.specs.Tok.{Tok}
 use Rattle.ir_tree.specs.declared.operand.Reg.TheVariants.{Ptr}
 use Rattle.ir_read.specs.Chained.{Chain}
@@ -68,7 +68,7 @@ one_slot = do
 unfoldable pub slots_behind : (ℕ → Bool) → Form Tok Slots
 slots_behind fits = either
     (do
-      _ ← the heads.Comma
+      _ ← the kinds.Comma
       either one_slot (many_slots fits))
     (gives (slots 1 None))
 
@@ -101,7 +101,7 @@ behind_comma shape false = either attaching (indexing shape)
 -- , reg operand / , Meta node
 unfoldable pub further : Form Tok Typed → Bool → Form Tok (Option Argument × Bool)
 further shape s = do
-  _ ← the heads.Comma
+  _ ← the kinds.Comma
   behind_comma shape s
 
 abbrev pub keep : List Argument → Option Argument → List Argument
@@ -119,7 +119,7 @@ unfoldable pub addressing : Form Tok Typed → Form Tok Instr
 addressing shape = do
   inbounds ← stepping
   typed ← shape
-  _ ← the heads.Comma
+  _ ← the kinds.Comma
   _ ← pointer
   base ← operand shape Ptr
   is ← indices shape

@@ -1,7 +1,7 @@
 -- What the readers of `alloca` and `getelementptr` give.
 use Rattle.std.specs.Prelude.{ℕ, max, Bool, true, false, ◌&&◌, not, if◌then◌else◌, Option, Some, None, Result, Err, List, []}
 use Rattle.std.specs.List.{fold}
-use Rattle.ir_lex.specs.declared.head.Head.TheVariants as heads
+use Rattle.ir_lex.specs.declared.token_kind.TokenKind.TheVariants as kinds
 use Rattle.ir_lex.specs.Tok.{Tok}
 use Rattle.ir_tree.specs.declared.operand.Reg.TheVariants.{Ptr}
 use Rattle.ir_read.specs.Alphabet.{among}
@@ -60,7 +60,7 @@ slots_at fits = pick (among tokens ALIGNED) one_slot_at (many_slots_at fits)
 unfoldable pub slots_behind_at : (ℕ → Bool) → Reader Tok Slots
 slots_behind_at fits = pick (among tokens COMMA)
     (do
-      _ ← the_at heads.Comma
+      _ ← the_at kinds.Comma
       slots_at fits)
     (done (slots 1 None))
 
@@ -86,7 +86,7 @@ behind_comma_at false = pick (among tokens META) attaching_at indexing_at
 
 unfoldable pub further_at : Bool → Reader Tok (Option Argument × Bool)
 further_at s = do
-  _ ← the_at heads.Comma
+  _ ← the_at kinds.Comma
   behind_comma_at s
 
 abbrev pub begins : Bool → Tok → Bool
@@ -106,7 +106,7 @@ stepped_at inbounds typed base = do
 -- behind the shape
 abbrev pub stepping_by_at : Bool → Typed → Reader Tok Instr
 stepping_by_at inbounds typed = do
-  _ ← the_at heads.Comma
+  _ ← the_at kinds.Comma
   _ ← pointer_at
   base ← operand_at Ptr
   stepped_at inbounds typed base

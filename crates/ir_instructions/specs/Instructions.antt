@@ -2,9 +2,9 @@
 -- Addressing Operations", "Other Operations").
 use Rattle.std.specs.Prelude.{ℕ, Bool, true, false, nat_eq, Option, Some, None, List, [], ◌∷◌}
 use Rattle.std.specs.List.{fold}
-use Rattle.ir_lex.specs.declared.head.Head.{Head}
-use Rattle.ir_lex.specs.declared.head.Head.TheVariants as heads
-use Rattle.ir_lex.specs.Heads.{number}
+use Rattle.ir_lex.specs.declared.token_kind.TokenKind.{TokenKind}
+use Rattle.ir_lex.specs.declared.token_kind.TokenKind.TheVariants as kinds
+use Rattle.ir_lex.specs.TokenKinds.{number}
 use Rattle.ir_lex.specs.Tok.{Tok}
 use Rattle.ir_tree.specs.declared.instr.BinaryOp.{BinaryOp}
 use Rattle.ir_tree.specs.declared.instr.BinaryOp.TheVariants as ops
@@ -27,7 +27,7 @@ use Rattle.ir_operands.specs.Values.{pointer, operand, argument}
 -- ---- flags
 
 abbrev pub is_nuw : Tok → Bool
-is_nuw t = nat_eq (number t.head) (number heads.Nuw)
+is_nuw t = nat_eq (number t.kind) (number kinds.Nuw)
 
 abbrev pub flags : Bool → Bool → Bool → Flags
 flags nuw nsw exact = record { nuw = nuw; nsw = nsw; exact = exact }
@@ -52,7 +52,7 @@ unfoldable pub on_two : Form Tok Typed → BinaryOp → Flags → Form Tok Instr
 on_two shape op f = do
   w ← integer
   left ← operand shape (Int w)
-  _ ← the heads.Comma
+  _ ← the kinds.Comma
   right ← operand shape (Int w)
   gives (instrs.Binary op f w left right)
 
@@ -65,41 +65,41 @@ wrapping shape op = do
 -- [exact] iN operand , operand
 unfoldable pub dividing : Form Tok Typed → BinaryOp → Form Tok Instr
 dividing shape op = do
-  exact ← maybe heads.Exact
+  exact ← maybe kinds.Exact
   on_two shape op (flags false false exact)
 
 -- [disjoint] iN operand , operand
 unfoldable pub joining : Form Tok Typed → Form Tok Instr
 joining shape = do
-  _ ← maybe heads.Disjoint
+  _ ← maybe kinds.Disjoint
   on_two shape ops.Or no_flags
 
 abbrev pub PREDICATES : List ℕ
-PREDICATES = number heads.Eq ∷ number heads.Ne ∷ number heads.Ugt ∷ number heads.Uge ∷ number heads.Ult ∷ number heads.Ule ∷ number heads.Sgt ∷ number heads.Sge ∷ number heads.Slt ∷ number heads.Sle ∷ []
+PREDICATES = number kinds.Eq ∷ number kinds.Ne ∷ number kinds.Ugt ∷ number kinds.Uge ∷ number kinds.Ult ∷ number kinds.Ule ∷ number kinds.Sgt ∷ number kinds.Sge ∷ number kinds.Slt ∷ number kinds.Sle ∷ []
 
-abbrev pub predicate_by : Head → Predicate
-predicate_by heads.Ne = predicates.Ne
-predicate_by heads.Ugt = predicates.Ugt
-predicate_by heads.Uge = predicates.Uge
-predicate_by heads.Ult = predicates.Ult
-predicate_by heads.Ule = predicates.Ule
-predicate_by heads.Sgt = predicates.Sgt
-predicate_by heads.Sge = predicates.Sge
-predicate_by heads.Slt = predicates.Slt
-predicate_by heads.Sle = predicates.Sle
+abbrev pub predicate_by : TokenKind → Predicate
+predicate_by kinds.Ne = predicates.Ne
+predicate_by kinds.Ugt = predicates.Ugt
+predicate_by kinds.Uge = predicates.Uge
+predicate_by kinds.Ult = predicates.Ult
+predicate_by kinds.Ule = predicates.Ule
+predicate_by kinds.Sgt = predicates.Sgt
+predicate_by kinds.Sge = predicates.Sge
+predicate_by kinds.Slt = predicates.Slt
+predicate_by kinds.Sle = predicates.Sle
 predicate_by h = predicates.Eq
 
 abbrev pub predicate_of : Tok → Predicate
-predicate_of t = predicate_by t.head
+predicate_of t = predicate_by t.kind
 
 -- [samesign] predicate reg operand , operand
 unfoldable pub comparing : Form Tok Typed → Form Tok Instr
 comparing shape = do
-  _ ← maybe heads.Samesign
+  _ ← maybe kinds.Samesign
   p ← one_of PREDICATES predicate_of
   r ← reg
   left ← operand shape r
-  _ ← the heads.Comma
+  _ ← the kinds.Comma
   right ← operand shape r
   gives (instrs.Icmp p r left right)
 
@@ -108,14 +108,14 @@ unfoldable pub casting : Form Tok Typed → CastOp → Form Tok Instr
 casting shape op = do
   from ← reg
   value ← operand shape from
-  _ ← the heads.To
+  _ ← the kinds.To
   to ← reg
   gives (instrs.Cast op from value to)
 
 -- [nneg] reg operand to reg
 unfoldable pub extending : Form Tok Typed → CastOp → Form Tok Instr
 extending shape op = do
-  _ ← maybe heads.Nneg
+  _ ← maybe kinds.Nneg
   casting shape op
 
 -- {nuw/nsw} reg operand to reg
@@ -131,9 +131,9 @@ unfoldable pub selecting : Form Tok Typed → Form Tok Instr
 selecting shape = do
   w ← bit
   condition ← operand shape (Int w)
-  _ ← the heads.Comma
+  _ ← the kinds.Comma
   one ← argument shape
-  _ ← the heads.Comma
+  _ ← the kinds.Comma
   other ← argument shape
   gives (instrs.Select condition one other)
 
@@ -150,7 +150,7 @@ freezing shape = do
 unfoldable pub aligned : Form Tok (Option ℕ)
 aligned = either
     (do
-      _ ← the heads.Align
+      _ ← the kinds.Align
       n ← token is_alignment
       _ ← attachments
       gives (Some n))
@@ -163,7 +163,7 @@ aligned = either
 unfoldable pub align : Form Tok (Option ℕ)
 align = either
     (do
-      _ ← the heads.Comma
+      _ ← the kinds.Comma
       aligned)
     (gives None)
 
@@ -171,7 +171,7 @@ align = either
 unfoldable pub loading : Form Tok Typed → Form Tok Instr
 loading shape = do
   r ← scalar
-  _ ← the heads.Comma
+  _ ← the kinds.Comma
   _ ← pointer
   address ← operand shape Ptr
   n ← align
@@ -182,7 +182,7 @@ unfoldable pub storing : Form Tok Typed → Form Tok Instr
 storing shape = do
   r ← scalar
   value ← operand shape r
-  _ ← the heads.Comma
+  _ ← the kinds.Comma
   _ ← pointer
   address ← operand shape Ptr
   n ← align

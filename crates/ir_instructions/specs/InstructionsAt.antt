@@ -1,8 +1,8 @@
 -- What the readers of instructions give.
 use Rattle.std.specs.Prelude.{ℕ, false, Option, Some, None, List, [], ◌∷◌}
 use Rattle.std.specs.List.{fold}
-use Rattle.ir_lex.specs.declared.head.Head.TheVariants as heads
-use Rattle.ir_lex.specs.Heads.{number}
+use Rattle.ir_lex.specs.declared.token_kind.TokenKind.TheVariants as kinds
+use Rattle.ir_lex.specs.TokenKinds.{number}
 use Rattle.ir_lex.specs.Tok.{Tok}
 use Rattle.ir_tree.specs.declared.instr.BinaryOp.{BinaryOp}
 use Rattle.ir_tree.specs.declared.instr.BinaryOp.TheVariants as ops
@@ -25,7 +25,7 @@ use Rattle.ir_read.specs.OperandsAt.{reg_at, integer_at, bit_at, scalar_at, mayb
 use Rattle.ir_operands.specs.ValuesAt.{pointer_at, operand_at, argument_at}
 
 abbrev pub ALIGN : List ℕ
-ALIGN = number heads.Align ∷ []
+ALIGN = number kinds.Align ∷ []
 
 unfoldable pub wraps_at : Reader Tok Flags
 wraps_at = do
@@ -35,14 +35,14 @@ wraps_at = do
 -- , operand
 unfoldable pub second_at : Reg → Reader Tok Operand
 second_at r = do
-  _ ← the_at heads.Comma
+  _ ← the_at kinds.Comma
   operand_at r
 
 unfoldable pub on_two_at : BinaryOp → Flags → Reader Tok Instr
 on_two_at op f = do
   w ← integer_at
   left ← operand_at (Int w)
-  _ ← the_at heads.Comma
+  _ ← the_at kinds.Comma
   right ← operand_at (Int w)
   done (instrs.Binary op f w left right)
 
@@ -53,21 +53,21 @@ wrapping_at op = do
 
 unfoldable pub dividing_at : BinaryOp → Reader Tok Instr
 dividing_at op = do
-  exact ← maybe_at heads.Exact
+  exact ← maybe_at kinds.Exact
   on_two_at op (flags false false exact)
 
 unfoldable pub joining_at : Reader Tok Instr
 joining_at = do
-  _ ← maybe_at heads.Disjoint
+  _ ← maybe_at kinds.Disjoint
   on_two_at ops.Or no_flags
 
 unfoldable pub comparing_at : Reader Tok Instr
 comparing_at = do
-  _ ← maybe_at heads.Samesign
+  _ ← maybe_at kinds.Samesign
   p ← one_of_at PREDICATES predicate_of
   r ← reg_at
   left ← operand_at r
-  _ ← the_at heads.Comma
+  _ ← the_at kinds.Comma
   right ← operand_at r
   done (instrs.Icmp p r left right)
 
@@ -75,13 +75,13 @@ unfoldable pub casting_at : CastOp → Reader Tok Instr
 casting_at op = do
   from ← reg_at
   value ← operand_at from
-  _ ← the_at heads.To
+  _ ← the_at kinds.To
   to ← reg_at
   done (instrs.Cast op from value to)
 
 unfoldable pub extending_at : CastOp → Reader Tok Instr
 extending_at op = do
-  _ ← maybe_at heads.Nneg
+  _ ← maybe_at kinds.Nneg
   casting_at op
 
 unfoldable pub narrowing_at : CastOp → Reader Tok Instr
@@ -92,20 +92,20 @@ narrowing_at op = do
 -- , reg operand
 unfoldable pub arm_at : Reader Tok Argument
 arm_at = do
-  _ ← the_at heads.Comma
+  _ ← the_at kinds.Comma
   argument_at
 
 -- behind the condition and the first arm
 abbrev pub other_at : Operand → Argument → Reader Tok Instr
 other_at condition one = do
-  _ ← the_at heads.Comma
+  _ ← the_at kinds.Comma
   other ← argument_at
   done (instrs.Select condition one other)
 
 -- behind the condition
 abbrev pub arms_at : Operand → Reader Tok Instr
 arms_at condition = do
-  _ ← the_at heads.Comma
+  _ ← the_at kinds.Comma
   one ← argument_at
   other_at condition one
 
@@ -124,7 +124,7 @@ freezing_at = do
 unfoldable pub aligned_at : Reader Tok (Option ℕ)
 aligned_at = pick (among tokens ALIGN)
     (do
-      _ ← the_at heads.Align
+      _ ← the_at kinds.Align
       n ← token_at is_alignment
       _ ← attachments_at
       done (Some n))
@@ -136,21 +136,21 @@ aligned_at = pick (among tokens ALIGN)
 unfoldable pub align_at : Reader Tok (Option ℕ)
 align_at = pick (among tokens COMMA)
     (do
-      _ ← the_at heads.Comma
+      _ ← the_at kinds.Comma
       aligned_at)
     (done None)
 
 -- , ptr operand
 unfoldable pub pointed_at : Reader Tok Operand
 pointed_at = do
-  _ ← the_at heads.Comma
+  _ ← the_at kinds.Comma
   _ ← pointer_at
   operand_at Ptr
 
 unfoldable pub loading_at : Reader Tok Instr
 loading_at = do
   r ← scalar_at
-  _ ← the_at heads.Comma
+  _ ← the_at kinds.Comma
   _ ← pointer_at
   address ← operand_at Ptr
   n ← align_at
@@ -165,7 +165,7 @@ stored_at r value address = do
 -- behind the value
 abbrev pub storing_to_at : Reg → Operand → Reader Tok Instr
 storing_to_at r value = do
-  _ ← the_at heads.Comma
+  _ ← the_at kinds.Comma
   _ ← pointer_at
   address ← operand_at Ptr
   stored_at r value address

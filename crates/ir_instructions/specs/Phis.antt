@@ -1,7 +1,7 @@
 -- Phis (LangRef, "phi Instruction").
 use Rattle.std.specs.Prelude.{Bool, true, false, Option, Some, None, List, [], ◌∷◌, ◌++◌}
 use Rattle.std.specs.List.{fold}
-use Rattle.ir_lex.specs.declared.head.Head.TheVariants as heads
+use Rattle.ir_lex.specs.declared.token_kind.TokenKind.TheVariants as kinds
 use Rattle.ir_lex.specs.Tok.{Tok}
 use Rattle.ir_tree.specs.declared.operand.Reg.{Reg}
 use Rattle.ir_read.specs.Chained.{Chain}
@@ -18,11 +18,11 @@ use Rattle.ir_operands.specs.Values.{operand}
 -- [ operand , Local ]
 unfoldable pub incoming : Form Tok Typed → Reg → Form Tok Incoming
 incoming shape r = do
-  _ ← the heads.OpenBracket
+  _ ← the kinds.OpenBracket
   v ← operand shape r
-  _ ← the heads.Comma
+  _ ← the kinds.Comma
   from ← local
-  _ ← the heads.CloseBracket
+  _ ← the kinds.CloseBracket
   gives (record { value = v; from = from })
 
 -- an attachment, behind which only attachments follow
@@ -44,7 +44,7 @@ behind_comma shape r false = either attaching (entering shape r)
 -- , [ operand , Local ] / , Meta node
 unfoldable pub further : Form Tok Typed → Reg → Bool → Form Tok (Option Incoming × Bool)
 further shape r s = do
-  _ ← the heads.Comma
+  _ ← the kinds.Comma
   behind_comma shape r s
 
 abbrev pub anywhere : Bool → Bool

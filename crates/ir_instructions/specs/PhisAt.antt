@@ -1,7 +1,7 @@
 -- What the readers of phis give.
 use Rattle.std.specs.Prelude.{Bool, true, false, Option, Some, None, List, [], ◌∷◌}
 use Rattle.std.specs.List.{fold}
-use Rattle.ir_lex.specs.declared.head.Head.TheVariants as heads
+use Rattle.ir_lex.specs.declared.token_kind.TokenKind.TheVariants as kinds
 use Rattle.ir_lex.specs.Tok.{Tok}
 use Rattle.ir_tree.specs.declared.operand.Reg.{Reg}
 use Rattle.ir_read.specs.Alphabet.{among}
@@ -19,11 +19,11 @@ use Rattle.ir_instructions.specs.Phis.{anywhere, keep}
 
 unfoldable pub incoming_at : Reg → Reader Tok Incoming
 incoming_at r = do
-  _ ← the_at heads.OpenBracket
+  _ ← the_at kinds.OpenBracket
   v ← operand_at r
-  _ ← the_at heads.Comma
+  _ ← the_at kinds.Comma
   from ← local_at
-  _ ← the_at heads.CloseBracket
+  _ ← the_at kinds.CloseBracket
   done (record { value = v; from = from })
 
 unfoldable pub attaching_at : Reader Tok (Option Incoming × Bool)
@@ -42,7 +42,7 @@ behind_comma_at r false = pick (among tokens META) attaching_at (entering_at r)
 
 unfoldable pub further_at : Reg → Bool → Reader Tok (Option Incoming × Bool)
 further_at r s = do
-  _ ← the_at heads.Comma
+  _ ← the_at kinds.Comma
   behind_comma_at r s
 
 abbrev pub begins : Bool → Tok → Bool

@@ -1,8 +1,8 @@
 -- Terminators (LangRef, "Terminator Instructions").
 use Rattle.std.specs.Prelude.{ℕ, Option, Some, None, option_map, Result, Err, List, [], ◌∷◌}
-use Rattle.ir_lex.specs.declared.head.Head.{Head}
-use Rattle.ir_lex.specs.declared.head.Head.TheVariants as heads
-use Rattle.ir_lex.specs.Heads.{number}
+use Rattle.ir_lex.specs.declared.token_kind.TokenKind.{TokenKind}
+use Rattle.ir_lex.specs.declared.token_kind.TokenKind.TheVariants as kinds
+use Rattle.ir_lex.specs.TokenKinds.{number}
 use Rattle.ir_lex.specs.Tok.{Tok}
 use Rattle.ir_tree.specs.declared.operand.Reg.{Reg}
 use Rattle.ir_tree.specs.declared.operand.Reg.TheVariants.{Int, Ptr}
@@ -41,7 +41,7 @@ returning shape = do
 -- label Local
 unfoldable pub target : Form Tok Tok
 target = do
-  _ ← the heads.LabelType
+  _ ← the kinds.LabelType
   local
 
 -- label Local / i1 operand , label Local , label Local
@@ -53,20 +53,20 @@ branching shape = either
     (do
       w ← bit
       condition ← operand shape (Int w)
-      _ ← the heads.Comma
+      _ ← the kinds.Comma
       if_true ← target
-      _ ← the heads.Comma
+      _ ← the kinds.Comma
       if_false ← target
       gives (terminators.Branch condition if_true if_false))
 
 -- ---- switch
 
 abbrev pub WORDS_OF_BITS : List ℕ
-WORDS_OF_BITS = number heads.True ∷ number heads.False ∷ []
+WORDS_OF_BITS = number kinds.True ∷ number kinds.False ∷ []
 
 -- no number is of type ptr
 abbrev pub case_classes : Reg → List ℕ
-case_classes (Int w) = number heads.Number ∷ WORDS_OF_BITS
+case_classes (Int w) = number kinds.Number ∷ WORDS_OF_BITS
 case_classes Ptr = WORDS_OF_BITS
 
 abbrev pub matched : ℕ → ℕ → Matched
@@ -76,14 +76,14 @@ abbrev pub matched_number : Reg → Tok → Option Matched
 matched_number (Int w) t = option_map (matched w) (literal w t.text)
 matched_number Ptr t = None
 
-abbrev pub matched_by : Head → Reg → Tok → Option Matched
-matched_by heads.Number r t = matched_number r t
-matched_by heads.True r t = Some (matched 1 1)
-matched_by heads.False r t = Some (matched 1 0)
+abbrev pub matched_by : TokenKind → Reg → Tok → Option Matched
+matched_by kinds.Number r t = matched_number r t
+matched_by kinds.True r t = Some (matched 1 1)
+matched_by kinds.False r t = Some (matched 1 0)
 matched_by h r t = None
 
 abbrev pub matched_of : Reg → Tok → Option Matched
-matched_of r t = matched_by t.head r t
+matched_of r t = matched_by t.kind r t
 
 abbrev pub number_matched : Reg → Tok → Result Matched TokenFault
 number_matched (Int w) t = in_range (matched_number (Int w) t)
@@ -97,7 +97,7 @@ constant r = token (is_valued tokens refusal (case_classes r) (matched_of r))
 unfoldable pub case_of : Reg → Form Tok Case
 case_of r = do
   m ← constant r
-  _ ← the heads.Comma
+  _ ← the kinds.Comma
   to ← target
   gives (record { reg = r; width = m.width; bits = m.bits; target = to })
 
@@ -109,16 +109,16 @@ case = do
 
 -- ] where a type may stand
 abbrev pub end_of_cases : Form Tok (Unit {0})
-end_of_cases = token (is_class tokens type_refusal (number heads.CloseBracket))
+end_of_cases = token (is_class tokens type_refusal (number kinds.CloseBracket))
 
 -- iN operand , label Local [ {case} ]
 unfoldable pub switching : Form Tok Typed → Form Tok Terminator
 switching shape = do
   w ← integer
   value ← operand shape (Int w)
-  _ ← the heads.Comma
+  _ ← the kinds.Comma
   default ← target
-  _ ← the heads.OpenBracket
+  _ ← the kinds.OpenBracket
   cases ← Star case
   _ ← end_of_cases
   gives (terminators.Switch w value default cases)
@@ -126,16 +126,16 @@ switching shape = do
 -- ---- any terminator, with the line of its first token
 
 abbrev pub ENDS : List ℕ
-ENDS = number heads.Ret ∷ number heads.Br ∷ number heads.Switch ∷ number heads.Unreachable ∷ []
+ENDS = number kinds.Ret ∷ number kinds.Br ∷ number kinds.Switch ∷ number kinds.Unreachable ∷ []
 
-abbrev pub end_by : Head → End
-end_by heads.Br = end.Br
-end_by heads.Switch = end.Switch
-end_by heads.Unreachable = end.Unreachable
+abbrev pub end_by : TokenKind → End
+end_by kinds.Br = end.Br
+end_by kinds.Switch = end.Switch
+end_by kinds.Unreachable = end.Unreachable
 end_by h = end.Ret
 
 abbrev pub ending_of : Tok → Ending
-ending_of t = record { end = end_by t.head; line = t.line }
+ending_of t = record { end = end_by t.kind; line = t.line }
 
 abbrev pub behind_end : Form Tok Typed → End → Form Tok Terminator
 behind_end shape end.Ret = returning shape

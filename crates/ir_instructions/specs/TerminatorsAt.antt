@@ -1,7 +1,7 @@
 -- What the readers of terminators give.
 use Rattle.std.specs.Prelude.{ℕ, Option, Some, None, List, [], ◌∷◌}
-use Rattle.ir_lex.specs.declared.head.Head.TheVariants as heads
-use Rattle.ir_lex.specs.Heads.{number}
+use Rattle.ir_lex.specs.declared.token_kind.TokenKind.TheVariants as kinds
+use Rattle.ir_lex.specs.TokenKinds.{number}
 use Rattle.ir_lex.specs.Tok.{Tok}
 use Rattle.ir_tree.specs.declared.operand.Reg.{Reg}
 use Rattle.ir_tree.specs.declared.operand.Reg.TheVariants.{Int}
@@ -24,7 +24,7 @@ use Rattle.ir_operands.specs.ValuesAt.{operand_at}
 use Rattle.ir_instructions.specs.Terminators.{case_classes, matched_of, ENDS, ending_of}
 
 abbrev pub LABEL : List ℕ
-LABEL = number heads.LabelType ∷ []
+LABEL = number kinds.LabelType ∷ []
 
 abbrev pub returned_at : Option Reg → Reader Tok Terminator
 returned_at None = done (terminators.Return None)
@@ -39,21 +39,21 @@ returning_at = do
 
 unfoldable pub target_at : Reader Tok Tok
 target_at = do
-  _ ← the_at heads.LabelType
+  _ ← the_at kinds.LabelType
   local_at
 
 -- , label Local
 unfoldable pub branch_at : Reader Tok Tok
 branch_at = do
-  _ ← the_at heads.Comma
+  _ ← the_at kinds.Comma
   target_at
 
 -- behind the condition
 abbrev pub branches_at : Operand → Reader Tok Terminator
 branches_at condition = do
-  _ ← the_at heads.Comma
+  _ ← the_at kinds.Comma
   if_true ← target_at
-  _ ← the_at heads.Comma
+  _ ← the_at kinds.Comma
   if_false ← target_at
   done (terminators.Branch condition if_true if_false)
 
@@ -77,7 +77,7 @@ constant_at r = token_at (is_valued tokens refusal (case_classes r) (matched_of 
 unfoldable pub case_of_at : Reg → Reader Tok Case
 case_of_at r = do
   m ← constant_at r
-  _ ← the_at heads.Comma
+  _ ← the_at kinds.Comma
   to ← target_at
   done (record { reg = r; width = m.width; bits = m.bits; target = to })
 
@@ -90,12 +90,12 @@ abbrev pub cases_at : Reader Tok (List Case)
 cases_at = star_at (among tokens REG) case_at
 
 abbrev pub end_of_cases_at : Reader Tok (Unit {0})
-end_of_cases_at = token_at (is_class tokens type_refusal (number heads.CloseBracket))
+end_of_cases_at = token_at (is_class tokens type_refusal (number kinds.CloseBracket))
 
 -- [ cases ]
 unfoldable pub bracketed_cases_at : Reader Tok (List Case)
 bracketed_cases_at = do
-  _ ← the_at heads.OpenBracket
+  _ ← the_at kinds.OpenBracket
   cases ← cases_at
   _ ← end_of_cases_at
   done cases
@@ -103,7 +103,7 @@ bracketed_cases_at = do
 -- behind the target of what no case has
 abbrev pub switched_at : ℕ → Operand → Tok → Reader Tok Terminator
 switched_at w value default = do
-  _ ← the_at heads.OpenBracket
+  _ ← the_at kinds.OpenBracket
   cases ← cases_at
   _ ← end_of_cases_at
   done (terminators.Switch w value default cases)
@@ -111,7 +111,7 @@ switched_at w value default = do
 -- behind the value
 abbrev pub switches_at : ℕ → Operand → Reader Tok Terminator
 switches_at w value = do
-  _ ← the_at heads.Comma
+  _ ← the_at kinds.Comma
   default ← target_at
   switched_at w value default
 

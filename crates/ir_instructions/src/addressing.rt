@@ -3,7 +3,7 @@
 ghost use Rattle.std.specs.Prelude.{◌≡◌, ◌*◌, nat_le, true};
 ghost use Rattle.ir_lex.specs.Tok.{tok};
 ghost use Rattle.ir_read.specs.Alphabet.{among};
-ghost use Rattle.ir_read.specs.Readers.{Gives};
+ghost use Rattle.ir_read.specs.Readers.{Returns};
 ghost use Rattle.ir_operands.specs.Adding.{gathered_at};
 ghost use Rattle.ir_instructions.specs.Addressing.{keep, slots_fit};
 ghost use Rattle.ir_instructions.specs.AddressingAt.{addressing_at, behind_comma_at, count_in_at, count_means, further_at, indices_at, many_slots_at, one_slot_at, reserving_at, slots_at, slots_behind_at, steps_at};
@@ -15,11 +15,11 @@ ghost use Rattle.ir_operands.specs.ShapeForms.{NUMBER};
 ghost use Rattle.ir_read.specs.Shapes.{parts_of};
 
 use crate::instructions::{align_at, aligned_at, argument_at, pointed_at};
-use ir_lex::{Head, Token};
+use ir_lex::{Token, TokenKind};
 use ir_operands::{Listing, Measured, counted, memory_shape_at, push, stepping_at};
 use ir_read::{
-    Argument, Fault, Instr, Operand, ReadError, Shape, ShapeNode, TokenFault, Tokens, attached_at,
-    done, expect, integer_at, refusal,
+    Argument, Fault, Instr, Operand, ReaderError, Shape, ShapeNode, TokenFault, Tokens,
+    attached_at, done, expect, integer_at, refusal,
 };
 use ir_tree::Rows;
 use std::alloc::Global;
@@ -100,37 +100,37 @@ fn count_means(shape: &Measured, width: u8, t: &Token) -> Result<u64, TokenFault
     requires ranged { IsWidth width }
     ensures { result ≡ count_means (slots_fit shape.now.typed.shape) width (tok t.now) }
 {
-    if t.head.is(Head::Number) {
+    if t.kind.is(TokenKind::Number) {
         fitting_count(shape, width, t)
     } else {
-        Err(refusal(t.head))
+        Err(refusal(t.kind))
     }
 }
 
 /// Takes a count of so many bits, from 0 on, of this shape.
-fn count_in_at(shape: &Measured, width: u8, tokens: &mut Tokens) -> Result<u64, ReadError>
+fn count_in_at(shape: &Measured, width: u8, tokens: &mut Tokens) -> Result<u64, ReaderError>
     requires measured { shape.now.extent ≡ extent_of shape.now.typed.shape }
     requires ranged { IsWidth width }
-    ensures { Gives (λ x. (x, tokens.new)) result (count_in_at (slots_fit shape.now.typed.shape) width tokens.old) }
+    ensures { Returns (λ x. (x, tokens.new)) result (count_in_at (slots_fit shape.now.typed.shape) width tokens.old) }
 {
     let left = tokens.left();
     match tokens.take() {
-        None => Err(ReadError::Fault(Fault {
+        None => Err(ReaderError::Fault(Fault {
             left,
             kind: TokenFault::Syntax,
         })),
         Some(t) => match count_means(shape, width, &t) {
             Ok(x) => Ok(x),
-            Err(kind) => Err(ReadError::Fault(Fault { left, kind })),
+            Err(kind) => Err(ReaderError::Fault(Fault { left, kind })),
         },
     }
 }
 
 /// Reads `iN Number [, align N]` and the attachments.
 #[tactic(auto, unfolding(crate::specs::AddressingAt::many_slots_at))]
-fn many_slots_at(alloc: Global, shape: &Measured, tokens: &mut Tokens) -> Result<Slots, ReadError>
+fn many_slots_at(alloc: Global, shape: &Measured, tokens: &mut Tokens) -> Result<Slots, ReaderError>
     requires { shape.now.extent ≡ extent_of shape.now.typed.shape }
-    ensures { Gives (λ x. (x, tokens.new)) result (many_slots_at (slots_fit shape.now.typed.shape) tokens.old) }
+    ensures { Returns (λ x. (x, tokens.new)) result (many_slots_at (slots_fit shape.now.typed.shape) tokens.old) }
 {
     let width = integer_at(tokens)?;
     let count = count_in_at(shape, width, tokens)?;
@@ -140,17 +140,17 @@ fn many_slots_at(alloc: Global, shape: &Measured, tokens: &mut Tokens) -> Result
 
 /// Reads `align N`, or an attachment, and the attachments.
 #[tactic(auto, unfolding(crate::specs::AddressingAt::one_slot_at))]
-fn one_slot_at(alloc: Global, tokens: &mut Tokens) -> Result<Slots, ReadError>
-    ensures { Gives (λ x. (x, tokens.new)) result (one_slot_at tokens.old) }
+fn one_slot_at(alloc: Global, tokens: &mut Tokens) -> Result<Slots, ReaderError>
+    ensures { Returns (λ x. (x, tokens.new)) result (one_slot_at tokens.old) }
 {
     let align = aligned_at(alloc, tokens)?;
     Ok(Slots { count: 1, align })
 }
 
 /// Reads `iN Number [, align N]` or `align N`, and the attachments.
-fn slots_at(alloc: Global, shape: &Measured, tokens: &mut Tokens) -> Result<Slots, ReadError>
+fn slots_at(alloc: Global, shape: &Measured, tokens: &mut Tokens) -> Result<Slots, ReaderError>
     requires { shape.now.extent ≡ extent_of shape.now.typed.shape }
-    ensures { Gives (λ x. (x, tokens.new)) result (slots_at (slots_fit shape.now.typed.shape) tokens.old) }
+    ensures { Returns (λ x. (x, tokens.new)) result (slots_at (slots_fit shape.now.typed.shape) tokens.old) }
 {
     if tokens.comes_aligned() {
         one_slot_at(alloc, tokens)
@@ -161,17 +161,21 @@ fn slots_at(alloc: Global, shape: &Measured, tokens: &mut Tokens) -> Result<Slot
 
 /// Reads `[, iN Number] [, align N]` and the attachments.
 #[tactic(auto, unfolding(crate::specs::AddressingAt::slots_behind_at))]
-fn slots_behind_at(alloc: Global, shape: &Measured, tokens: &mut Tokens) -> Result<Slots, ReadError>
+fn slots_behind_at(
+    alloc: Global,
+    shape: &Measured,
+    tokens: &mut Tokens,
+) -> Result<Slots, ReaderError>
     requires { shape.now.extent ≡ extent_of shape.now.typed.shape }
-    ensures { Gives (λ x. (x, tokens.new)) result (slots_behind_at (slots_fit shape.now.typed.shape) tokens.old) }
+    ensures { Returns (λ x. (x, tokens.new)) result (slots_behind_at (slots_fit shape.now.typed.shape) tokens.old) }
 {
-    if !tokens.comes(Head::Comma) {
+    if !tokens.comes(TokenKind::Comma) {
         return Ok(Slots {
             count: 1,
             align: None,
         });
     }
-    expect(Head::Comma, tokens)?;
+    expect(TokenKind::Comma, tokens)?;
     slots_at(alloc, shape, tokens)
 }
 
@@ -181,8 +185,8 @@ pub fn reserving_into(
     alloc: Global,
     list: &mut Listing,
     tokens: &mut Tokens,
-) -> Result<(), ReadError>
-    ensures { Gives (λ _. (list.new.lines.items, tokens.new)) result (put_at list.old reserving_at tokens.old) }
+) -> Result<(), ReaderError>
+    ensures { Returns (λ _. (list.new.lines.items, tokens.new)) result (put_at list.old reserving_at tokens.old) }
 {
     let shape = memory_shape_at(alloc, tokens)?;
     let slots = slots_behind_at(alloc, &shape, tokens)?;
@@ -194,15 +198,15 @@ pub fn reserving_into(
 }
 
 /// Reads what follows a comma behind an index, or behind an attachment: an index, which is added, or an
-/// attachment, behind which only attachments follow. Gives whether it is an attachment.
+/// attachment, behind which only attachments follow. Returns whether it is an attachment.
 #[tactic(auto, unfolding(crate::specs::AddressingAt::attaching_at, crate::specs::AddressingAt::indexing_at))]
 fn behind_comma_into(
     alloc: Global,
     attached: bool,
     indices: &mut Vec<Argument>,
     tokens: &mut Tokens,
-) -> Result<bool, ReadError>
-    ensures { Gives (λ attached. ((indices.new.items, attached), tokens.new)) result (gathered_at keep indices.old.items (behind_comma_at attached) tokens.old) }
+) -> Result<bool, ReaderError>
+    ensures { Returns (λ attached. ((indices.new.items, attached), tokens.new)) result (gathered_at keep indices.old.items (behind_comma_at attached) tokens.old) }
 {
     if attached {
         attached_at(alloc, tokens)?;
@@ -224,21 +228,21 @@ fn further_into(
     attached: bool,
     indices: &mut Vec<Argument>,
     tokens: &mut Tokens,
-) -> Result<bool, ReadError>
-    ensures { Gives (λ attached. ((indices.new.items, attached), tokens.new)) result (gathered_at keep indices.old.items (further_at attached) tokens.old) }
+) -> Result<bool, ReaderError>
+    ensures { Returns (λ attached. ((indices.new.items, attached), tokens.new)) result (gathered_at keep indices.old.items (further_at attached) tokens.old) }
 {
-    expect(Head::Comma, tokens)?;
+    expect(TokenKind::Comma, tokens)?;
     behind_comma_into(alloc, attached, indices, tokens)
 }
 
 /// Reads the indices, and the attachments.
 #[tactic(auto, unfolding(crate::specs::AddressingAt::indices_at))]
-fn indices_at(alloc: Global, tokens: &mut Tokens) -> Result<Vec<Argument>, ReadError>
-    ensures { Gives (λ x. (x.items, tokens.new)) result (indices_at tokens.old) }
+fn indices_at(alloc: Global, tokens: &mut Tokens) -> Result<Vec<Argument>, ReaderError>
+    ensures { Returns (λ x. (x.items, tokens.new)) result (indices_at tokens.old) }
 {
     let mut indices = Vec::new(alloc);
     let mut attached = false;
-    'each: while tokens.comes(Head::Comma) {
+    'each: while tokens.comes(TokenKind::Comma) {
         attached = further_into(alloc, attached, &mut indices, tokens)?;
     }
     Ok(indices)
@@ -253,8 +257,8 @@ struct Steps {
 
 /// Reads `, ptr operand` and the indices, behind a shape.
 #[tactic(auto, unfolding(crate::specs::AddressingAt::steps_at))]
-fn steps_at(alloc: Global, tokens: &mut Tokens) -> Result<Steps, ReadError>
-    ensures { Gives (λ x. ((x.base, x.indices.items), tokens.new)) result (steps_at tokens.old) }
+fn steps_at(alloc: Global, tokens: &mut Tokens) -> Result<Steps, ReaderError>
+    ensures { Returns (λ x. ((x.base, x.indices.items), tokens.new)) result (steps_at tokens.old) }
 {
     let base = pointed_at(alloc, tokens)?;
     let indices = indices_at(alloc, tokens)?;
@@ -266,8 +270,8 @@ pub fn addressing_into(
     alloc: Global,
     list: &mut Listing,
     tokens: &mut Tokens,
-) -> Result<(), ReadError>
-    ensures { Gives (λ _. (list.new.lines.items, tokens.new)) result (put_at list.old addressing_at tokens.old) }
+) -> Result<(), ReaderError>
+    ensures { Returns (λ _. (list.new.lines.items, tokens.new)) result (put_at list.old addressing_at tokens.old) }
 {
     let inbounds = stepping_at(tokens)?;
     let shape = memory_shape_at(alloc, tokens)?;

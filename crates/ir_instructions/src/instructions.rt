@@ -2,7 +2,7 @@
 
 ghost use Rattle.std.specs.Prelude.{◌≡◌};
 ghost use Rattle.ir_read.specs.Alphabet.{among};
-ghost use Rattle.ir_read.specs.Readers.{Gives, next_is};
+ghost use Rattle.ir_read.specs.Readers.{Returns, next_is};
 ghost use Rattle.ir_lex.specs.Tok.{tok};
 ghost use Rattle.ir_read.specs.Rules.{is_among};
 ghost use Rattle.ir_read.specs.Ahead.{WRAPS};
@@ -13,10 +13,10 @@ ghost use Rattle.ir_operands.specs.Listing.{put_at};
 ghost use Rattle.ir_operands.specs.ValuesAt.{argument_at};
 ghost use Rattle.ir_instructions.specs.InstructionsAt.{arm_at, pointed_at, second_at, wraps_at, on_two_at, wrapping_at, dividing_at, joining_at, comparing_at, casting_at, extending_at, narrowing_at, selecting_at, freezing_at, aligned_at, align_at, loading_at, storing_at};
 
-use ir_lex::{Head, Token};
+use ir_lex::{Token, TokenKind};
 use ir_operands::{Listing, operand_at, pointer_at};
 use ir_read::{
-    Argument, Fault, Instr, Operand, ReadError, TokenFault, Tokens, alignment_at, attached_at,
+    Argument, Fault, Instr, Operand, ReaderError, TokenFault, Tokens, alignment_at, attached_at,
     attachments_at, bit_at, done, expect, integer_at, maybe_at, refusal, reg_at, scalar_at,
 };
 use ir_tree::{BinaryOp, CastOp, Flags, Predicate, Reg};
@@ -24,19 +24,19 @@ use std::alloc::Global;
 
 /// Takes `nuw` or `nsw`; the answer is whether it is `nuw`.
 #[tactic(auto, unfolding(ir_read::specs::Rules::is_among))]
-fn wrap_at(tokens: &mut Tokens) -> Result<bool, ReadError>
-    ensures { Gives (λ x. (x, tokens.new)) result (one_of_at WRAPS is_nuw tokens.old) }
+fn wrap_at(tokens: &mut Tokens) -> Result<bool, ReaderError>
+    ensures { Returns (λ x. (x, tokens.new)) result (one_of_at WRAPS is_nuw tokens.old) }
 {
     let left = tokens.left();
     match tokens.take() {
-        None => Err(ReadError::Fault(Fault {
+        None => Err(ReaderError::Fault(Fault {
             left,
             kind: TokenFault::Syntax,
         })),
-        Some(t) => match t.head {
-            Head::Nuw => Ok(true),
-            Head::Nsw => Ok(false),
-            head => Err(ReadError::Fault(Fault {
+        Some(t) => match t.kind {
+            TokenKind::Nuw => Ok(true),
+            TokenKind::Nsw => Ok(false),
+            head => Err(ReaderError::Fault(Fault {
                 left,
                 kind: refusal(head),
             })),
@@ -64,8 +64,8 @@ fn with_wrap(flags: Flags, nuw: bool) -> Flags
 
 /// Reads the flags `nuw` and `nsw`, any number of them.
 #[tactic(auto, unfolding(crate::specs::InstructionsAt::wraps_at))]
-fn wraps_at(tokens: &mut Tokens) -> Result<Flags, ReadError>
-    ensures { Gives (λ x. (x, tokens.new)) result (wraps_at tokens.old) }
+fn wraps_at(tokens: &mut Tokens) -> Result<Flags, ReaderError>
+    ensures { Returns (λ x. (x, tokens.new)) result (wraps_at tokens.old) }
 {
     let mut flags = Flags {
         nuw: false,
@@ -81,11 +81,11 @@ fn wraps_at(tokens: &mut Tokens) -> Result<Flags, ReadError>
 
 /// Reads `, operand`.
 #[tactic(auto, unfolding(crate::specs::InstructionsAt::second_at))]
-fn second_at(alloc: Global, reg: Reg, tokens: &mut Tokens) -> Result<Operand, ReadError>
+fn second_at(alloc: Global, reg: Reg, tokens: &mut Tokens) -> Result<Operand, ReaderError>
     requires { IsReg reg }
-    ensures { Gives (λ x. (x, tokens.new)) result (second_at reg tokens.old) }
+    ensures { Returns (λ x. (x, tokens.new)) result (second_at reg tokens.old) }
 {
-    expect(Head::Comma, tokens)?;
+    expect(TokenKind::Comma, tokens)?;
     operand_at(alloc, reg, tokens)
 }
 
@@ -96,8 +96,8 @@ pub fn on_two_into(
     flags: Flags,
     list: &mut Listing,
     tokens: &mut Tokens,
-) -> Result<(), ReadError>
-    ensures { Gives (λ _. (list.new.lines.items, tokens.new)) result (put_at list.old (on_two_at op flags) tokens.old) }
+) -> Result<(), ReaderError>
+    ensures { Returns (λ _. (list.new.lines.items, tokens.new)) result (put_at list.old (on_two_at op flags) tokens.old) }
 {
     let width = integer_at(tokens)?;
     let left = operand_at(alloc, Reg::Int(width), tokens)?;
@@ -118,8 +118,8 @@ pub fn wrapping_into(
     op: BinaryOp,
     list: &mut Listing,
     tokens: &mut Tokens,
-) -> Result<(), ReadError>
-    ensures { Gives (λ _. (list.new.lines.items, tokens.new)) result (put_at list.old (wrapping_at op) tokens.old) }
+) -> Result<(), ReaderError>
+    ensures { Returns (λ _. (list.new.lines.items, tokens.new)) result (put_at list.old (wrapping_at op) tokens.old) }
 {
     let flags = wraps_at(tokens)?;
     on_two_into(alloc, op, flags, list, tokens)
@@ -132,10 +132,10 @@ pub fn dividing_into(
     op: BinaryOp,
     list: &mut Listing,
     tokens: &mut Tokens,
-) -> Result<(), ReadError>
-    ensures { Gives (λ _. (list.new.lines.items, tokens.new)) result (put_at list.old (dividing_at op) tokens.old) }
+) -> Result<(), ReaderError>
+    ensures { Returns (λ _. (list.new.lines.items, tokens.new)) result (put_at list.old (dividing_at op) tokens.old) }
 {
-    let exact = maybe_at(Head::Exact, tokens)?;
+    let exact = maybe_at(TokenKind::Exact, tokens)?;
     let flags = Flags {
         nuw: false,
         nsw: false,
@@ -146,10 +146,14 @@ pub fn dividing_into(
 
 /// Reads what follows `or`.
 #[tactic(auto, unfolding(crate::specs::InstructionsAt::joining_at))]
-pub fn joining_into(alloc: Global, list: &mut Listing, tokens: &mut Tokens) -> Result<(), ReadError>
-    ensures { Gives (λ _. (list.new.lines.items, tokens.new)) result (put_at list.old joining_at tokens.old) }
+pub fn joining_into(
+    alloc: Global,
+    list: &mut Listing,
+    tokens: &mut Tokens,
+) -> Result<(), ReaderError>
+    ensures { Returns (λ _. (list.new.lines.items, tokens.new)) result (put_at list.old joining_at tokens.old) }
 {
-    maybe_at(Head::Disjoint, tokens)?;
+    maybe_at(TokenKind::Disjoint, tokens)?;
     let flags = Flags {
         nuw: false,
         nsw: false,
@@ -162,34 +166,34 @@ pub fn joining_into(alloc: Global, list: &mut Listing, tokens: &mut Tokens) -> R
 fn predicate_means(t: &Token) -> Result<Predicate, TokenFault>
     ensures { result ≡ is_among tokens refusal PREDICATES predicate_of (tok t.now) }
 {
-    match t.head {
-        Head::Eq => Ok(Predicate::Eq),
-        Head::Ne => Ok(Predicate::Ne),
-        Head::Ugt => Ok(Predicate::Ugt),
-        Head::Uge => Ok(Predicate::Uge),
-        Head::Ult => Ok(Predicate::Ult),
-        Head::Ule => Ok(Predicate::Ule),
-        Head::Sgt => Ok(Predicate::Sgt),
-        Head::Sge => Ok(Predicate::Sge),
-        Head::Slt => Ok(Predicate::Slt),
-        Head::Sle => Ok(Predicate::Sle),
+    match t.kind {
+        TokenKind::Eq => Ok(Predicate::Eq),
+        TokenKind::Ne => Ok(Predicate::Ne),
+        TokenKind::Ugt => Ok(Predicate::Ugt),
+        TokenKind::Uge => Ok(Predicate::Uge),
+        TokenKind::Ult => Ok(Predicate::Ult),
+        TokenKind::Ule => Ok(Predicate::Ule),
+        TokenKind::Sgt => Ok(Predicate::Sgt),
+        TokenKind::Sge => Ok(Predicate::Sge),
+        TokenKind::Slt => Ok(Predicate::Slt),
+        TokenKind::Sle => Ok(Predicate::Sle),
         head => Err(refusal(head)),
     }
 }
 
 /// Takes the condition of an `icmp`.
-fn predicate_at(tokens: &mut Tokens) -> Result<Predicate, ReadError>
-    ensures { Gives (λ x. (x, tokens.new)) result (one_of_at PREDICATES predicate_of tokens.old) }
+fn predicate_at(tokens: &mut Tokens) -> Result<Predicate, ReaderError>
+    ensures { Returns (λ x. (x, tokens.new)) result (one_of_at PREDICATES predicate_of tokens.old) }
 {
     let left = tokens.left();
     match tokens.take() {
-        None => Err(ReadError::Fault(Fault {
+        None => Err(ReaderError::Fault(Fault {
             left,
             kind: TokenFault::Syntax,
         })),
         Some(t) => match predicate_means(&t) {
             Ok(x) => Ok(x),
-            Err(kind) => Err(ReadError::Fault(Fault { left, kind })),
+            Err(kind) => Err(ReaderError::Fault(Fault { left, kind })),
         },
     }
 }
@@ -199,10 +203,10 @@ pub fn comparing_into(
     alloc: Global,
     list: &mut Listing,
     tokens: &mut Tokens,
-) -> Result<(), ReadError>
-    ensures { Gives (λ _. (list.new.lines.items, tokens.new)) result (put_at list.old comparing_at tokens.old) }
+) -> Result<(), ReaderError>
+    ensures { Returns (λ _. (list.new.lines.items, tokens.new)) result (put_at list.old comparing_at tokens.old) }
 {
-    maybe_at(Head::Samesign, tokens)?;
+    maybe_at(TokenKind::Samesign, tokens)?;
     let predicate = predicate_at(tokens)?;
     let reg = reg_at(tokens)?;
     let left = operand_at(alloc, reg, tokens)?;
@@ -222,12 +226,12 @@ pub fn casting_into(
     op: CastOp,
     list: &mut Listing,
     tokens: &mut Tokens,
-) -> Result<(), ReadError>
-    ensures { Gives (λ _. (list.new.lines.items, tokens.new)) result (put_at list.old (casting_at op) tokens.old) }
+) -> Result<(), ReaderError>
+    ensures { Returns (λ _. (list.new.lines.items, tokens.new)) result (put_at list.old (casting_at op) tokens.old) }
 {
     let from = reg_at(tokens)?;
     let value = operand_at(alloc, from, tokens)?;
-    expect(Head::To, tokens)?;
+    expect(TokenKind::To, tokens)?;
     let to = reg_at(tokens)?;
     list.put(Instr::Cast {
         op,
@@ -244,10 +248,10 @@ pub fn extending_into(
     op: CastOp,
     list: &mut Listing,
     tokens: &mut Tokens,
-) -> Result<(), ReadError>
-    ensures { Gives (λ _. (list.new.lines.items, tokens.new)) result (put_at list.old (extending_at op) tokens.old) }
+) -> Result<(), ReaderError>
+    ensures { Returns (λ _. (list.new.lines.items, tokens.new)) result (put_at list.old (extending_at op) tokens.old) }
 {
-    maybe_at(Head::Nneg, tokens)?;
+    maybe_at(TokenKind::Nneg, tokens)?;
     casting_into(alloc, op, list, tokens)
 }
 
@@ -258,8 +262,8 @@ pub fn narrowing_into(
     op: CastOp,
     list: &mut Listing,
     tokens: &mut Tokens,
-) -> Result<(), ReadError>
-    ensures { Gives (λ _. (list.new.lines.items, tokens.new)) result (put_at list.old (narrowing_at op) tokens.old) }
+) -> Result<(), ReaderError>
+    ensures { Returns (λ _. (list.new.lines.items, tokens.new)) result (put_at list.old (narrowing_at op) tokens.old) }
 {
     wraps_at(tokens)?;
     casting_into(alloc, op, list, tokens)
@@ -267,8 +271,8 @@ pub fn narrowing_into(
 
 /// Reads `reg operand`.
 #[tactic(auto, unfolding(ir_operands::specs::ValuesAt::argument_at))]
-pub fn argument_at(alloc: Global, tokens: &mut Tokens) -> Result<Argument, ReadError>
-    ensures { Gives (λ x. (x, tokens.new)) result (argument_at tokens.old) }
+pub fn argument_at(alloc: Global, tokens: &mut Tokens) -> Result<Argument, ReaderError>
+    ensures { Returns (λ x. (x, tokens.new)) result (argument_at tokens.old) }
 {
     let reg = reg_at(tokens)?;
     let operand = operand_at(alloc, reg, tokens)?;
@@ -277,10 +281,10 @@ pub fn argument_at(alloc: Global, tokens: &mut Tokens) -> Result<Argument, ReadE
 
 /// Reads `, reg operand`.
 #[tactic(auto, unfolding(crate::specs::InstructionsAt::arm_at))]
-fn arm_at(alloc: Global, tokens: &mut Tokens) -> Result<Argument, ReadError>
-    ensures { Gives (λ x. (x, tokens.new)) result (arm_at tokens.old) }
+fn arm_at(alloc: Global, tokens: &mut Tokens) -> Result<Argument, ReaderError>
+    ensures { Returns (λ x. (x, tokens.new)) result (arm_at tokens.old) }
 {
-    expect(Head::Comma, tokens)?;
+    expect(TokenKind::Comma, tokens)?;
     argument_at(alloc, tokens)
 }
 
@@ -289,8 +293,8 @@ pub fn selecting_into(
     alloc: Global,
     list: &mut Listing,
     tokens: &mut Tokens,
-) -> Result<(), ReadError>
-    ensures { Gives (λ _. (list.new.lines.items, tokens.new)) result (put_at list.old selecting_at tokens.old) }
+) -> Result<(), ReaderError>
+    ensures { Returns (λ _. (list.new.lines.items, tokens.new)) result (put_at list.old selecting_at tokens.old) }
 {
     let width = bit_at(tokens)?;
     let condition = operand_at(alloc, Reg::Int(width), tokens)?;
@@ -309,8 +313,8 @@ pub fn freezing_into(
     alloc: Global,
     list: &mut Listing,
     tokens: &mut Tokens,
-) -> Result<(), ReadError>
-    ensures { Gives (λ _. (list.new.lines.items, tokens.new)) result (put_at list.old freezing_at tokens.old) }
+) -> Result<(), ReaderError>
+    ensures { Returns (λ _. (list.new.lines.items, tokens.new)) result (put_at list.old freezing_at tokens.old) }
 {
     let reg = reg_at(tokens)?;
     let value = operand_at(alloc, reg, tokens)?;
@@ -319,11 +323,11 @@ pub fn freezing_into(
 
 /// Reads what follows the comma behind an address: an alignment, or an attachment.
 #[tactic(auto, unfolding(crate::specs::InstructionsAt::aligned_at))]
-pub fn aligned_at(alloc: Global, tokens: &mut Tokens) -> Result<Option<u64>, ReadError>
-    ensures { Gives (λ x. (x, tokens.new)) result (aligned_at tokens.old) }
+pub fn aligned_at(alloc: Global, tokens: &mut Tokens) -> Result<Option<u64>, ReaderError>
+    ensures { Returns (λ x. (x, tokens.new)) result (aligned_at tokens.old) }
 {
-    if tokens.comes(Head::Align) {
-        expect(Head::Align, tokens)?;
+    if tokens.comes(TokenKind::Align) {
+        expect(TokenKind::Align, tokens)?;
         let n = alignment_at(tokens)?;
         attachments_at(alloc, tokens)?;
         Ok(Some(n))
@@ -336,11 +340,11 @@ pub fn aligned_at(alloc: Global, tokens: &mut Tokens) -> Result<Option<u64>, Rea
 
 /// Reads the alignment behind an address, if one stands there, and the attachments.
 #[tactic(auto, unfolding(crate::specs::InstructionsAt::align_at))]
-pub fn align_at(alloc: Global, tokens: &mut Tokens) -> Result<Option<u64>, ReadError>
-    ensures { Gives (λ x. (x, tokens.new)) result (align_at tokens.old) }
+pub fn align_at(alloc: Global, tokens: &mut Tokens) -> Result<Option<u64>, ReaderError>
+    ensures { Returns (λ x. (x, tokens.new)) result (align_at tokens.old) }
 {
-    if tokens.comes(Head::Comma) {
-        expect(Head::Comma, tokens)?;
+    if tokens.comes(TokenKind::Comma) {
+        expect(TokenKind::Comma, tokens)?;
         aligned_at(alloc, tokens)
     } else {
         Ok(None)
@@ -349,17 +353,21 @@ pub fn align_at(alloc: Global, tokens: &mut Tokens) -> Result<Option<u64>, ReadE
 
 /// Reads `, ptr operand`.
 #[tactic(auto, unfolding(crate::specs::InstructionsAt::pointed_at))]
-pub fn pointed_at(alloc: Global, tokens: &mut Tokens) -> Result<Operand, ReadError>
-    ensures { Gives (λ x. (x, tokens.new)) result (pointed_at tokens.old) }
+pub fn pointed_at(alloc: Global, tokens: &mut Tokens) -> Result<Operand, ReaderError>
+    ensures { Returns (λ x. (x, tokens.new)) result (pointed_at tokens.old) }
 {
-    expect(Head::Comma, tokens)?;
+    expect(TokenKind::Comma, tokens)?;
     pointer_at(tokens)?;
     operand_at(alloc, Reg::Ptr, tokens)
 }
 
 /// Reads what follows `load`.
-pub fn loading_into(alloc: Global, list: &mut Listing, tokens: &mut Tokens) -> Result<(), ReadError>
-    ensures { Gives (λ _. (list.new.lines.items, tokens.new)) result (put_at list.old loading_at tokens.old) }
+pub fn loading_into(
+    alloc: Global,
+    list: &mut Listing,
+    tokens: &mut Tokens,
+) -> Result<(), ReaderError>
+    ensures { Returns (λ _. (list.new.lines.items, tokens.new)) result (put_at list.old loading_at tokens.old) }
 {
     let reg = scalar_at(tokens)?;
     let address = pointed_at(alloc, tokens)?;
@@ -372,8 +380,12 @@ pub fn loading_into(alloc: Global, list: &mut Listing, tokens: &mut Tokens) -> R
 }
 
 /// Reads what follows `store`.
-pub fn storing_into(alloc: Global, list: &mut Listing, tokens: &mut Tokens) -> Result<(), ReadError>
-    ensures { Gives (λ _. (list.new.lines.items, tokens.new)) result (put_at list.old storing_at tokens.old) }
+pub fn storing_into(
+    alloc: Global,
+    list: &mut Listing,
+    tokens: &mut Tokens,
+) -> Result<(), ReaderError>
+    ensures { Returns (λ _. (list.new.lines.items, tokens.new)) result (put_at list.old storing_at tokens.old) }
 {
     let reg = scalar_at(tokens)?;
     let value = operand_at(alloc, reg, tokens)?;

@@ -1,4 +1,4 @@
-//! Reads instructions and terminators, each by the class of its first word.
+//! Reads instructions and terminators, each by the kind of its first word.
 //!
 //! Below stand the readers of shapes and operands (`ir_operands`), the forms and the trees of what is written
 //! (`ir_read`), the tokens of `ir_lex` and the operations of `ir_tree`. An instruction is read from behind its first

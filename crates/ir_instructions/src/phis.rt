@@ -1,35 +1,35 @@
 //! Reads phis (LangRef, "phi Instruction").
 
 ghost use Rattle.std.specs.Prelude.{◌≡◌};
-ghost use Rattle.ir_read.specs.Readers.{Gives};
+ghost use Rattle.ir_read.specs.Readers.{Returns};
 ghost use Rattle.ir_read.specs.Operands.{IsReg};
 ghost use Rattle.ir_operands.specs.Adding.{gathered_at};
 ghost use Rattle.ir_operands.specs.Listing.{put_at};
 ghost use Rattle.ir_instructions.specs.Phis.{keep};
 ghost use Rattle.ir_instructions.specs.PhisAt.{incoming_at, behind_comma_at, further_at, all_entries_at, phi_at};
 
-use ir_lex::Head;
+use ir_lex::TokenKind;
 use ir_operands::{Listing, operand_at, push};
-use ir_read::{Incoming, Instr, ReadError, Tokens, attached_at, done, expect, local_at, reg_at};
+use ir_read::{Incoming, Instr, ReaderError, Tokens, attached_at, done, expect, local_at, reg_at};
 use ir_tree::{Reg, Rows};
 use std::alloc::Global;
 
 /// Reads `[ operand , Local ]`.
 #[tactic(auto, unfolding(crate::specs::PhisAt::incoming_at))]
-fn incoming_at(alloc: Global, reg: Reg, tokens: &mut Tokens) -> Result<Incoming, ReadError>
+fn incoming_at(alloc: Global, reg: Reg, tokens: &mut Tokens) -> Result<Incoming, ReaderError>
     requires { IsReg reg }
-    ensures { Gives (λ x. (x, tokens.new)) result (incoming_at reg tokens.old) }
+    ensures { Returns (λ x. (x, tokens.new)) result (incoming_at reg tokens.old) }
 {
-    expect(Head::OpenBracket, tokens)?;
+    expect(TokenKind::OpenBracket, tokens)?;
     let value = operand_at(alloc, reg, tokens)?;
-    expect(Head::Comma, tokens)?;
+    expect(TokenKind::Comma, tokens)?;
     let from = local_at(alloc, tokens)?;
-    expect(Head::CloseBracket, tokens)?;
+    expect(TokenKind::CloseBracket, tokens)?;
     done(Incoming { value, from })
 }
 
 /// Reads what follows a comma behind an entry, or behind an attachment: an entry, which is added, or an
-/// attachment, behind which only attachments follow. Gives whether it is an attachment.
+/// attachment, behind which only attachments follow. Returns whether it is an attachment.
 #[tactic(auto, unfolding(crate::specs::PhisAt::attaching_at, crate::specs::PhisAt::entering_at))]
 fn behind_comma_into(
     alloc: Global,
@@ -37,9 +37,9 @@ fn behind_comma_into(
     attached: bool,
     entries: &mut Vec<Incoming>,
     tokens: &mut Tokens,
-) -> Result<bool, ReadError>
+) -> Result<bool, ReaderError>
     requires { IsReg reg }
-    ensures { Gives (λ attached. ((entries.new.items, attached), tokens.new)) result (gathered_at keep entries.old.items (behind_comma_at reg attached) tokens.old) }
+    ensures { Returns (λ attached. ((entries.new.items, attached), tokens.new)) result (gathered_at keep entries.old.items (behind_comma_at reg attached) tokens.old) }
 {
     if attached {
         attached_at(alloc, tokens)?;
@@ -62,25 +62,29 @@ fn further_into(
     attached: bool,
     entries: &mut Vec<Incoming>,
     tokens: &mut Tokens,
-) -> Result<bool, ReadError>
+) -> Result<bool, ReaderError>
     requires { IsReg reg }
-    ensures { Gives (λ attached. ((entries.new.items, attached), tokens.new)) result (gathered_at keep entries.old.items (further_at reg attached) tokens.old) }
+    ensures { Returns (λ attached. ((entries.new.items, attached), tokens.new)) result (gathered_at keep entries.old.items (further_at reg attached) tokens.old) }
 {
-    expect(Head::Comma, tokens)?;
+    expect(TokenKind::Comma, tokens)?;
     behind_comma_into(alloc, reg, attached, entries, tokens)
 }
 
 /// Reads the entries, at least one, and the attachments.
 #[tactic(auto, unfolding(crate::specs::PhisAt::entries_at))]
-fn all_entries_at(alloc: Global, reg: Reg, tokens: &mut Tokens) -> Result<Vec<Incoming>, ReadError>
+fn all_entries_at(
+    alloc: Global,
+    reg: Reg,
+    tokens: &mut Tokens,
+) -> Result<Vec<Incoming>, ReaderError>
     requires { IsReg reg }
-    ensures { Gives (λ x. (x.items, tokens.new)) result (all_entries_at reg tokens.old) }
+    ensures { Returns (λ x. (x.items, tokens.new)) result (all_entries_at reg tokens.old) }
 {
     let mut entries = Vec::new(alloc);
     let first = incoming_at(alloc, reg, tokens)?;
     push(&mut entries, first)?;
     let mut attached = false;
-    'each: while tokens.comes(Head::Comma) {
+    'each: while tokens.comes(TokenKind::Comma) {
         attached = further_into(alloc, reg, attached, &mut entries, tokens)?;
     }
     Ok(entries)
@@ -88,8 +92,8 @@ fn all_entries_at(alloc: Global, reg: Reg, tokens: &mut Tokens) -> Result<Vec<In
 
 /// Reads what follows `phi`.
 #[tactic(auto, unfolding(crate::specs::PhisAt::phi_at, crate::specs::PhisAt::phi_of_at), using(crate::proofs::Grouping::phi_of_is))]
-pub fn phi_into(alloc: Global, list: &mut Listing, tokens: &mut Tokens) -> Result<(), ReadError>
-    ensures { Gives (λ _. (list.new.lines.items, tokens.new)) result (put_at list.old phi_at tokens.old) }
+pub fn phi_into(alloc: Global, list: &mut Listing, tokens: &mut Tokens) -> Result<(), ReaderError>
+    ensures { Returns (λ _. (list.new.lines.items, tokens.new)) result (put_at list.old phi_at tokens.old) }
 {
     let reg = reg_at(tokens)?;
     let incoming = Rows::of(all_entries_at(alloc, reg, tokens)?);

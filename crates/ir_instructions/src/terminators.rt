@@ -2,18 +2,18 @@
 
 ghost use Rattle.std.specs.Prelude.{◌≡◌};
 ghost use Rattle.ir_lex.specs.Tok.{tok};
-ghost use Rattle.ir_read.specs.Readers.{Gives};
+ghost use Rattle.ir_read.specs.Readers.{Returns};
 ghost use Rattle.ir_read.specs.Rules.{is_among, is_valued};
 ghost use Rattle.ir_read.specs.Classes.{tokens, refusal, one_of_at};
 ghost use Rattle.ir_read.specs.Operands.{IsReg};
 ghost use Rattle.ir_instructions.specs.Terminators.{case_classes, matched_of, number_matched, ENDS, ending_of};
 ghost use Rattle.ir_instructions.specs.TerminatorsAt.{branch_at, bracketed_cases_at, returning_at, target_at, choosing_at, branching_at, constant_at, case_of_at, case_at, cases_at, end_of_cases_at, switching_at, behind_end_at, terminator_at};
 
-use ir_lex::{Head, Token};
+use ir_lex::{Token, TokenKind};
 use ir_operands::operand_at;
 use ir_read::{
-    Argument, Case, Fault, Name, ReadError, Terminator, TokenFault, Tokens, attachments_at, bit_at,
-    done, expect, integer_at, literal, local_at, refusal, reg_at, result_at, type_refusal,
+    Argument, Case, Fault, Name, ReaderError, Terminator, TokenFault, Tokens, attachments_at,
+    bit_at, done, expect, integer_at, literal, local_at, refusal, reg_at, result_at, type_refusal,
 };
 use ir_tree::{Reg, Rows};
 use std::alloc::Global;
@@ -62,8 +62,8 @@ fn returning_into(
     alloc: Global,
     place: &mut Terminator,
     tokens: &mut Tokens,
-) -> Result<(), ReadError>
-    ensures { Gives (λ _. (place.new, tokens.new)) result (returning_at tokens.old) }
+) -> Result<(), ReaderError>
+    ensures { Returns (λ _. (place.new, tokens.new)) result (returning_at tokens.old) }
 {
     match result_at(tokens)? {
         None => {
@@ -80,19 +80,19 @@ fn returning_into(
 
 /// Reads `label Local`.
 #[tactic(auto, unfolding(crate::specs::TerminatorsAt::target_at))]
-pub fn target_at(alloc: Global, tokens: &mut Tokens) -> Result<Name, ReadError>
-    ensures { Gives (λ x. (x, tokens.new)) result (target_at tokens.old) }
+pub fn target_at(alloc: Global, tokens: &mut Tokens) -> Result<Name, ReaderError>
+    ensures { Returns (λ x. (x, tokens.new)) result (target_at tokens.old) }
 {
-    expect(Head::LabelType, tokens)?;
+    expect(TokenKind::LabelType, tokens)?;
     local_at(alloc, tokens)
 }
 
 /// Reads `, label Local`.
 #[tactic(auto, unfolding(crate::specs::TerminatorsAt::branch_at))]
-fn branch_at(alloc: Global, tokens: &mut Tokens) -> Result<Name, ReadError>
-    ensures { Gives (λ x. (x, tokens.new)) result (branch_at tokens.old) }
+fn branch_at(alloc: Global, tokens: &mut Tokens) -> Result<Name, ReaderError>
+    ensures { Returns (λ x. (x, tokens.new)) result (branch_at tokens.old) }
 {
-    expect(Head::Comma, tokens)?;
+    expect(TokenKind::Comma, tokens)?;
     target_at(alloc, tokens)
 }
 
@@ -101,8 +101,8 @@ fn choosing_into(
     alloc: Global,
     place: &mut Terminator,
     tokens: &mut Tokens,
-) -> Result<(), ReadError>
-    ensures { Gives (λ _. (place.new, tokens.new)) result (choosing_at tokens.old) }
+) -> Result<(), ReaderError>
+    ensures { Returns (λ _. (place.new, tokens.new)) result (choosing_at tokens.old) }
 {
     let width = bit_at(tokens)?;
     let condition = operand_at(alloc, Reg::Int(width), tokens)?;
@@ -125,10 +125,10 @@ fn branching_into(
     alloc: Global,
     place: &mut Terminator,
     tokens: &mut Tokens,
-) -> Result<(), ReadError>
-    ensures { Gives (λ _. (place.new, tokens.new)) result (branching_at tokens.old) }
+) -> Result<(), ReaderError>
+    ensures { Returns (λ _. (place.new, tokens.new)) result (branching_at tokens.old) }
 {
-    if tokens.comes(Head::LabelType) {
+    if tokens.comes(TokenKind::LabelType) {
         let to = target_at(alloc, tokens)?;
         put(place, Terminator::Jump(to));
         Ok(())
@@ -155,40 +155,40 @@ fn constant_means(reg: Reg, t: &Token) -> Result<Matched, TokenFault>
     requires { IsReg reg }
     ensures { result ≡ is_valued tokens refusal (case_classes reg) (matched_of reg) (tok t.now) }
 {
-    match t.head {
-        Head::Number => number_matched(reg, t),
-        Head::True => Ok(Matched { width: 1, bits: 1 }),
-        Head::False => Ok(Matched { width: 1, bits: 0 }),
+    match t.kind {
+        TokenKind::Number => number_matched(reg, t),
+        TokenKind::True => Ok(Matched { width: 1, bits: 1 }),
+        TokenKind::False => Ok(Matched { width: 1, bits: 0 }),
         head => Err(refusal(head)),
     }
 }
 
 /// Takes the number of a case of this type, `true` or `false`.
-pub fn constant_at(reg: Reg, tokens: &mut Tokens) -> Result<Matched, ReadError>
+pub fn constant_at(reg: Reg, tokens: &mut Tokens) -> Result<Matched, ReaderError>
     requires { IsReg reg }
-    ensures { Gives (λ x. (x, tokens.new)) result (constant_at reg tokens.old) }
+    ensures { Returns (λ x. (x, tokens.new)) result (constant_at reg tokens.old) }
 {
     let left = tokens.left();
     match tokens.take() {
-        None => Err(ReadError::Fault(Fault {
+        None => Err(ReaderError::Fault(Fault {
             left,
             kind: TokenFault::Syntax,
         })),
         Some(t) => match constant_means(reg, &t) {
             Ok(x) => Ok(x),
-            Err(kind) => Err(ReadError::Fault(Fault { left, kind })),
+            Err(kind) => Err(ReaderError::Fault(Fault { left, kind })),
         },
     }
 }
 
 /// Reads a case: a type, a number of it, and a target.
 #[tactic(auto, unfolding(crate::specs::TerminatorsAt::case_at, crate::specs::TerminatorsAt::case_of_at))]
-fn case_at(alloc: Global, tokens: &mut Tokens) -> Result<Case, ReadError>
-    ensures { Gives (λ x. (x, tokens.new)) result (case_at tokens.old) }
+fn case_at(alloc: Global, tokens: &mut Tokens) -> Result<Case, ReaderError>
+    ensures { Returns (λ x. (x, tokens.new)) result (case_at tokens.old) }
 {
     let reg = reg_at(tokens)?;
     let matched = constant_at(reg, tokens)?;
-    expect(Head::Comma, tokens)?;
+    expect(TokenKind::Comma, tokens)?;
     let target = target_at(alloc, tokens)?;
     done(Case {
         reg,
@@ -199,8 +199,8 @@ fn case_at(alloc: Global, tokens: &mut Tokens) -> Result<Case, ReadError>
 }
 
 /// Reads all cases that stand here.
-fn cases_at(alloc: Global, tokens: &mut Tokens) -> Result<Vec<Case>, ReadError>
-    ensures { Gives (λ x. (x.items, tokens.new)) result (cases_at tokens.old) }
+fn cases_at(alloc: Global, tokens: &mut Tokens) -> Result<Vec<Case>, ReaderError>
+    ensures { Returns (λ x. (x.items, tokens.new)) result (cases_at tokens.old) }
 {
     let mut cases = Vec::new(alloc);
     'each: while tokens.comes_reg() {
@@ -212,22 +212,22 @@ fn cases_at(alloc: Global, tokens: &mut Tokens) -> Result<Vec<Case>, ReadError>
 
 /// Takes the bracket behind the cases of a `switch`.
 #[tactic(auto, unfolding(ir_read::specs::Rules::is_class))]
-fn end_of_cases_at(tokens: &mut Tokens) -> Result<(), ReadError>
-    ensures { Gives (λ x. (tt, tokens.new)) result (end_of_cases_at tokens.old) }
+fn end_of_cases_at(tokens: &mut Tokens) -> Result<(), ReaderError>
+    ensures { Returns (λ x. (tt, tokens.new)) result (end_of_cases_at tokens.old) }
 {
     let left = tokens.left();
     match tokens.take() {
-        None => Err(ReadError::Fault(Fault {
+        None => Err(ReaderError::Fault(Fault {
             left,
             kind: TokenFault::Syntax,
         })),
         Some(t) => {
-            if t.head.is(Head::CloseBracket) {
+            if t.kind.is(TokenKind::CloseBracket) {
                 Ok(())
             } else {
-                Err(ReadError::Fault(Fault {
+                Err(ReaderError::Fault(Fault {
                     left,
-                    kind: type_refusal(t.head),
+                    kind: type_refusal(t.kind),
                 }))
             }
         }
@@ -236,10 +236,10 @@ fn end_of_cases_at(tokens: &mut Tokens) -> Result<(), ReadError>
 
 /// Reads the cases of a `switch`, in their brackets.
 #[tactic(auto, unfolding(crate::specs::TerminatorsAt::bracketed_cases_at))]
-fn bracketed_cases_at(alloc: Global, tokens: &mut Tokens) -> Result<Vec<Case>, ReadError>
-    ensures { Gives (λ x. (x.items, tokens.new)) result (bracketed_cases_at tokens.old) }
+fn bracketed_cases_at(alloc: Global, tokens: &mut Tokens) -> Result<Vec<Case>, ReaderError>
+    ensures { Returns (λ x. (x.items, tokens.new)) result (bracketed_cases_at tokens.old) }
 {
-    expect(Head::OpenBracket, tokens)?;
+    expect(TokenKind::OpenBracket, tokens)?;
     let cases = cases_at(alloc, tokens)?;
     end_of_cases_at(tokens)?;
     Ok(cases)
@@ -250,8 +250,8 @@ fn switching_into(
     alloc: Global,
     place: &mut Terminator,
     tokens: &mut Tokens,
-) -> Result<(), ReadError>
-    ensures { Gives (λ _. (place.new, tokens.new)) result (switching_at tokens.old) }
+) -> Result<(), ReaderError>
+    ensures { Returns (λ _. (place.new, tokens.new)) result (switching_at tokens.old) }
 {
     let width = integer_at(tokens)?;
     let value = operand_at(alloc, Reg::Int(width), tokens)?;
@@ -274,17 +274,17 @@ fn ending_means(t: &Token) -> Result<Ending, TokenFault>
     ensures { result ≡ is_among tokens refusal ENDS ending_of (tok t.now) }
 {
     let line = t.line;
-    match t.head {
-        Head::Ret => Ok(Ending {
+    match t.kind {
+        TokenKind::Ret => Ok(Ending {
             end: End::Ret,
             line,
         }),
-        Head::Br => Ok(Ending { end: End::Br, line }),
-        Head::Switch => Ok(Ending {
+        TokenKind::Br => Ok(Ending { end: End::Br, line }),
+        TokenKind::Switch => Ok(Ending {
             end: End::Switch,
             line,
         }),
-        Head::Unreachable => Ok(Ending {
+        TokenKind::Unreachable => Ok(Ending {
             end: End::Unreachable,
             line,
         }),
@@ -292,18 +292,18 @@ fn ending_means(t: &Token) -> Result<Ending, TokenFault>
     }
 }
 
-fn ending_at(tokens: &mut Tokens) -> Result<Ending, ReadError>
-    ensures { Gives (λ x. (x, tokens.new)) result (one_of_at ENDS ending_of tokens.old) }
+fn ending_at(tokens: &mut Tokens) -> Result<Ending, ReaderError>
+    ensures { Returns (λ x. (x, tokens.new)) result (one_of_at ENDS ending_of tokens.old) }
 {
     let left = tokens.left();
     match tokens.take() {
-        None => Err(ReadError::Fault(Fault {
+        None => Err(ReaderError::Fault(Fault {
             left,
             kind: TokenFault::Syntax,
         })),
         Some(t) => match ending_means(&t) {
             Ok(x) => Ok(x),
-            Err(kind) => Err(ReadError::Fault(Fault { left, kind })),
+            Err(kind) => Err(ReaderError::Fault(Fault { left, kind })),
         },
     }
 }
@@ -313,8 +313,8 @@ fn behind_end_into(
     end: End,
     place: &mut Terminator,
     tokens: &mut Tokens,
-) -> Result<(), ReadError>
-    ensures { Gives (λ _. (place.new, tokens.new)) result (behind_end_at end tokens.old) }
+) -> Result<(), ReaderError>
+    ensures { Returns (λ _. (place.new, tokens.new)) result (behind_end_at end tokens.old) }
 {
     match end {
         End::Ret => returning_into(alloc, place, tokens),
@@ -333,8 +333,8 @@ pub fn terminator_into(
     alloc: Global,
     place: &mut Ended,
     tokens: &mut Tokens,
-) -> Result<(), ReadError>
-    ensures { Gives (λ _. (place.new, tokens.new)) result (terminator_at tokens.old) }
+) -> Result<(), ReaderError>
+    ensures { Returns (λ _. (place.new, tokens.new)) result (terminator_at tokens.old) }
 {
     let ending = ending_at(tokens)?;
     place.line = ending.line;

@@ -18,7 +18,7 @@ use Rattle.ir_interp.specs.Tasks.{task_meant}
 use Rattle.ir_interp.specs.declared.registers.Registers.{Registers}
 use Rattle.ir_interp.specs.declared.ran.Ran.TheVariants.{Went}
 use Rattle.ir_interp.specs.Slots.{AreLast}
-use Rattle.ir_interp.specs.declared.line.Line.{Line}
+use Rattle.ir_interp.specs.declared.line.CodeLine.{CodeLine}
 use Rattle.ir_interp.specs.Frames.{IsStanding, Stacks}
 use Rattle.ir_interp.specs.Lines.{HasRanNumbers}
 use Rattle.ir_interp.specs.Scenes.{Fails, GoesOn, HasDone, IsNext, Plays, Scene, Silent, Works}
@@ -53,7 +53,7 @@ next_standing blocks d d' q line l rest h next block end is =
     }
 
 -- the effect of a line on the frame
-pub line_works : (z : Scene) (m : Memory) (choice : ℕ) (given : Option (Option ℕ)) (line : Line) (l : MeantLine) (rest : List MeantLine) (effect : ℕ → Effect) → IsNext z m line l rest →
+pub line_works : (z : Scene) (m : Memory) (choice : ℕ) (given : Option (Option ℕ)) (line : CodeLine) (l : MeantLine) (rest : List MeantLine) (effect : ℕ → Effect) → IsNext z m line l rest →
     ((input : List ℕ) (place : ℕ) → execute.execute z.program.signature input z.memory place choice (task_meant z.names z.frame.locals line.task) ≡ effect place) → Works z choice given l.local rest effect
 unfolding act
 line_works z m choice given line l rest effect n h = λ input place has.
@@ -89,7 +89,7 @@ pub same_stacked : (numbers : List ℕ) (f f' : Frame) (d d' : MeantFrame) (fron
 same_stacked numbers f f' d d' front b s h = stays_stacked numbers numbers f f' d d' front refl b s h
 
 -- a line that ran
-pub line_went : (z : Scene) (code : Code) (m m' : Memory) (choice : ℕ) (given : Option (Option ℕ)) (f : Frame) (line : Line) (l : MeantLine) (rest : List MeantLine) (r' : Registers) (n : ℕ) (reserved : Bool) → n ≡ f.line + 1 →
+pub line_went : (z : Scene) (code : Code) (m m' : Memory) (choice : ℕ) (given : Option (Option ℕ)) (f : Frame) (line : CodeLine) (l : MeantLine) (rest : List MeantLine) (r' : Registers) (n : ℕ) (reserved : Bool) → n ≡ f.line + 1 →
     Plays z code m f → IsNext z m line l rest → HasRanNumbers m m' (Went reserved) →
     Goes z.names m z.memory z.frame.locals line.local choice (task_meant z.names z.frame.locals line.task) m' r' reserved →
     HasDone z choice given m m' f (record f { registers = r'; line = n }) did.Went
@@ -123,7 +123,7 @@ line_went z code m m' choice given f line l rest r' n reserved more s next numbe
     )
 
 -- a line that broke
-pub line_broke : (z : Scene) (m : Memory) (choice : ℕ) (given : Option (Option ℕ)) (line : Line) (l : MeantLine) (rest : List MeantLine) (why : Fault) → IsNext z m line l rest →
+pub line_broke : (z : Scene) (m : Memory) (choice : ℕ) (given : Option (Option ℕ)) (line : CodeLine) (l : MeantLine) (rest : List MeantLine) (why : Fault) → IsNext z m line l rest →
     HasEffect z.memory choice (task_meant z.names z.frame.locals line.task) (λ place. execute.Broke why) → Fails z choice given why
 line_broke z m choice given line l rest why next h =
     work_fails z choice given l.local rest why (line_works z m choice given line l rest (λ place. execute.Broke why) next (λ input place. h z.program.signature input place))

@@ -13,7 +13,7 @@ use Rattle.ir_meaning.specs.Program.{back as back_to, Broken, Done, Failure, Nex
 use Rattle.ir_meaning.specs.Run.{start, start_of}
 use Rattle.ir_meaning.specs.declared.event.Event.{Event}
 use Rattle.ir_meaning.specs.declared.event.Event.TheVariants.{Wrote}
-use Rattle.ir_meaning.specs.declared.fault.Cause.{Cause}
+use Rattle.ir_tree.specs.declared.cause.Cause.{Cause}
 use Rattle.ir_meaning.specs.declared.fault.Place.{Place as MeantPlace}
 use Rattle.ir_meaning.specs.declared.value.Value.{Value as MeantValue}
 use Rattle.ir_machine.specs.Meant.{symbol_at}
@@ -28,7 +28,7 @@ use Rattle.ir_interp.specs.Frames.{IsFrame, IsOpened, IsStanding, Stacks, Wait}
 use Rattle.ir_interp.specs.Scenes.{Acts, Asks, Enters, Fails, GoesOn, Plays, Returns, Scene, Shown, Silent, StaysAt, IsQuiet, answer_meant, behind, events_of}
 use Rattle.ir_interp.specs.Steps.{HasBegun, IsRunning, IsStep, Leads, WentBack, numbers_meant, place_meant}
 use Rattle.ir_interp.specs.declared.code.Code.{Code}
-use Rattle.ir_interp.specs.declared.step_end.Place.{Place}
+use Rattle.ir_interp.specs.declared.step_end.StepPlace.{StepPlace}
 use Rattle.ir_interp.specs.declared.step_end.StepEnd.{StepEnd}
 use Rattle.ir_interp.specs.declared.step_end.StepEnd.TheVariants as end
 use Rattle.ir_interp.specs.declared.frame.Frame.{Frame}
@@ -205,14 +205,14 @@ step_returns names p m n m' s choice given r answer result code below ended e we
 
 -- ---- ends
 
-pub step_undefined : (names : List Symbol) (p : Program) (s : State) (front : List ℕ) (choice : ℕ) (given : Option (Option ℕ)) (m' : Machine) (cause : Cause) (at : Place) → Fails (scene_of names p s front) choice given (fault.Undefined cause) →
+pub step_undefined : (names : List Symbol) (p : Program) (s : State) (front : List ℕ) (choice : ℕ) (given : Option (Option ℕ)) (m' : Machine) (cause : Cause) (at : StepPlace) → Fails (scene_of names p s front) choice given (fault.Undefined cause) →
     place_meant names at ≡ place_of s.top → m'.ended ≡ Some (end.Undefined cause at) → IsStep names p s choice given m' (end.Undefined cause at)
 step_undefined names p s front choice given m' cause at fails is ended =
     let failure : Failure = record { why = fault.Undefined cause; at = place_of s.top } in
     let same : failure ≡ record { why = fault.Undefined cause; at = place_meant names at } = ap (λ (x : MeantPlace). record { why = fault.Undefined cause; at = x }) (sym is) in
     (Broken failure, (λ input has. fails input s.place has (place_of s.top) s.below, same, (end.Undefined cause at, (ended, same))))
 
-pub step_uninit : (names : List Symbol) (p : Program) (s : State) (front : List ℕ) (choice : ℕ) (given : Option (Option ℕ)) (m' : Machine) (at : Place) → Fails (scene_of names p s front) choice given fault.Uninit →
+pub step_uninit : (names : List Symbol) (p : Program) (s : State) (front : List ℕ) (choice : ℕ) (given : Option (Option ℕ)) (m' : Machine) (at : StepPlace) → Fails (scene_of names p s front) choice given fault.Uninit →
     place_meant names at ≡ place_of s.top → m'.ended ≡ Some (end.Uninit at) → IsStep names p s choice given m' (end.Uninit at)
 step_uninit names p s front choice given m' at fails is ended =
     let failure : Failure = record { why = fault.Uninit; at = place_of s.top } in

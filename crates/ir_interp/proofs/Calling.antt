@@ -8,12 +8,12 @@ use Rattle.ir_tree.specs.declared.operand.Symbol.{Symbol}
 use Rattle.ir_meaning.specs.Act.{Act}
 use Rattle.ir_meaning.specs.Execute.{Asked, Broke, calls_host, calls_kind, calls_value, gets_char, host_params, puts_bits, puts_char, reg_eq, regs_eq, result_eq}
 use Rattle.ir_meaning.specs.Fault as fault
-use Rattle.ir_meaning.specs.Frame.{AFunction, AHost, AVariable, Locals, GetChar, Host, Kind, Missing, PutChar}
+use Rattle.ir_meaning.specs.Frame.{AFunction, AHost, AVariable, Locals, GetChar, Host, SymbolKind, Missing, PutChar}
 use Rattle.ir_meaning.specs.Memory.{Memory as MeantMemory}
 use Rattle.ir_meaning.specs.Operate.{bits_of}
 use Rattle.ir_meaning.specs.Program as program
 use Rattle.ir_meaning.specs.Program.{Next, advance, go_in}
-use Rattle.ir_meaning.specs.declared.fault.Cause.TheVariants.{CallOfAnotherType, CallOfNoFunction}
+use Rattle.ir_tree.specs.declared.cause.Cause.TheVariants.{CallOfAnotherType, CallOfNoFunction}
 use Rattle.ir_meaning.specs.declared.value.Base.TheVariants.{Cell, Code, Nowhere}
 use Rattle.ir_meaning.specs.declared.value.Value.{Value}
 use Rattle.ir_meaning.specs.declared.value.Value.TheVariants.{Number, Pointer, Poison}
@@ -48,7 +48,7 @@ host_asks_none PutChar input memory place values s vs h = put_asks_none memory p
 host_asks_none GetChar input memory place values s vs h = get_asks_none memory place (slice_get input place) s vs h
 
 -- a function that is called takes as many arguments as are passed
-kind_takes : (k : Kind) (t : Symbol) (input : List ℕ) (memory : MeantMemory) (place : ℕ) (result : Option Reg) (regs : List Reg) (values : List Value) (s : Symbol) (vs : List Value) →
+kind_takes : (k : SymbolKind) (t : Symbol) (input : List ℕ) (memory : MeantMemory) (place : ℕ) (result : Option Reg) (regs : List Reg) (values : List Value) (s : Symbol) (vs : List Value) →
     calls_kind k t input memory place result regs values ≡ Asked s vs → (t ≡ s) × ((params : List Reg) × ((result' : Option Reg) × ((k ≡ AFunction params result') × (length params ≡ length regs))))
 kind_takes (AFunction params result') t input memory place result regs values s vs h = by (regs_eq params regs) refl h where
   by : (v : Bool) → regs_eq params regs ≡ v → (if v && result_eq result' result then Asked t values else Broke (fault.Undefined CallOfAnotherType)) ≡ Asked s vs →

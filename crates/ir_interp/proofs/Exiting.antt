@@ -4,8 +4,8 @@ use Rattle.ir_meaning.specs.Act as act
 use Rattle.ir_meaning.specs.Act.{Leads', Leaves, Stuck, exit_of, jumps}
 use Rattle.ir_meaning.specs.Frame.{value_of}
 use Rattle.ir_meaning.specs.Memory.{Memory as MeantMemory, kill}
-use Rattle.ir_meaning.specs.declared.fault.Cause.{Cause}
-use Rattle.ir_meaning.specs.declared.fault.Cause.TheVariants.{UnreachableReached}
+use Rattle.ir_tree.specs.declared.cause.Cause.{Cause}
+use Rattle.ir_tree.specs.declared.cause.Cause.TheVariants.{UnreachableReached}
 use Rattle.ir_machine.specs.Memories.{KeepsHandles, numbers_of}
 use Rattle.ir_machine.specs.declared.memory.Memory.{Memory}
 use Rattle.ir_machine.specs.declared.scalar.Scalar.{Scalar}

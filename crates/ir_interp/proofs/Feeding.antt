@@ -7,7 +7,7 @@ use Rattle.ir_meaning.specs.Program.{Next, On, Program, State, Took, step}
 use Rattle.ir_meaning.specs.Run.{run, run_on}
 use Rattle.ir_meaning.specs.declared.event.Event.{Event}
 use Rattle.ir_meaning.specs.declared.event.Event.TheVariants.{Wrote}
-use Rattle.lto_outside.specs.Bytes.{Gives}
+use Rattle.lto_outside.specs.Bytes.{Yields}
 use Rattle.lto_outside.specs.declared.fault.Fault.{Fault}
 use Rattle.ir_interp.specs.Scenes.{Heard, Said, Silent, behind, heard}
 use Rattle.ir_interp.specs.Steps.{IsEnd, IsRunning, IsStep, Leads, WantsByte}
@@ -54,7 +54,7 @@ advance_quiet names p s left m (step_end.Uninit place) other (next, (leads, e, a
 -- ---- with what the input has next
 
 -- what the input gives is what the bytes have at the place
-gives_here : (bytes : List ℕ) (place : ℕ) (new : Option (List ℕ)) (byte : Option ℕ) → Gives {E = Fault} (Some (drop place bytes)) new (Ok byte) →
+gives_here : (bytes : List ℕ) (place : ℕ) (new : Option (List ℕ)) (byte : Option ℕ) → Yields {E = Fault} (Some (drop place bytes)) new (Ok byte) →
     (slice_get bytes place ≡ byte) × (new ≡ Some (drop (behind (Heard byte) place) bytes))
 gives_here bytes place None (Some b) g = absurd g
 gives_here bytes place (Some ys) (Some b) g = (taken bytes place g) where
@@ -73,9 +73,9 @@ gives_here bytes place (Some ys) None g = (past bytes place g.0, ap Some g.1) wh
   past (x ∷ xs) zero e = absurd (cc e)
   past (x ∷ xs) (suc k) e = past xs k e
 
-gives_told : (bytes : List ℕ) (place : ℕ) (left left' : Option (List ℕ)) (byte : Option ℕ) → left ≡ Some (drop place bytes) → Gives {E = Fault} left left' (Ok byte) →
+gives_told : (bytes : List ℕ) (place : ℕ) (left left' : Option (List ℕ)) (byte : Option ℕ) → left ≡ Some (drop place bytes) → Yields {E = Fault} left left' (Ok byte) →
     (slice_get bytes place ≡ byte) × (left' ≡ Some (drop (behind (Heard byte) place) bytes))
-gives_told bytes place left left' byte is gives = gives_here bytes place left' byte (subst (λ (o : Option (List ℕ)). Gives {E = Fault} o left' (Ok byte)) is gives)
+gives_told bytes place left left' byte is gives = gives_here bytes place left' byte (subst (λ (o : Option (List ℕ)). Yields {E = Fault} o left' (Ok byte)) is gives)
 
 heard_one : (byte : Option ℕ) (place : ℕ) → behind (Heard byte) place ≡ place + bytes_read (heard byte ∷ [])
 heard_one None place = omega arith
@@ -123,7 +123,7 @@ agreed p s bytes byte wants agree =
     same_heard (slice_get bytes s.place) byte (subst (λ (t : Took). Agree (reads t.events) (reads (heard byte ∷ []))) w.1 agree)
 
 -- a step that was given the byte that it asked for
-heard_step : (names : List Symbol) (p : Program) (s : State) (left left' : Option (List ℕ)) (m : Machine) (byte : Option ℕ) (next : State) → WantsByte p s → Gives {E = Fault} left left' (Ok byte) → next.place ≡ behind (Heard byte) s.place →
+heard_step : (names : List Symbol) (p : Program) (s : State) (left left' : Option (List ℕ)) (m : Machine) (byte : Option ℕ) (next : State) → WantsByte p s → Yields {E = Fault} left left' (Ok byte) → next.place ≡ behind (Heard byte) s.place →
     Leads p s 0 (Some byte) (heard byte ∷ []) (On next) → IsRunning names p m next → GoesOn names p s left left' m (heard byte ∷ [])
 heard_step names p s left left' m byte next wants gives place leads runs = record {
   next = next;
@@ -137,7 +137,7 @@ heard_step names p s left left' m byte next wants gives place leads runs = recor
       (leads bytes got.0, got.1 ∙ ap (λ (n : ℕ). Some (drop n bytes)) (sym place));
 }
 
-pub fed : (names : List Symbol) (p : Program) (s : State) (left left' : Option (List ℕ)) (m : Machine) (byte : Option ℕ) (end : StepEnd) → WantsByte p s → Gives {E = Fault} left left' (Ok byte) → IsStep names p s 0 (Some byte) m end → HasAdvanced names p s left left' m end
+pub fed : (names : List Symbol) (p : Program) (s : State) (left left' : Option (List ℕ)) (m : Machine) (byte : Option ℕ) (end : StepEnd) → WantsByte p s → Yields {E = Fault} left left' (Ok byte) → IsStep names p s 0 (Some byte) m end → HasAdvanced names p s left left' m end
 fed names p s left left' m byte step_end.Going wants gives (Silent, (next, (quiet, place, leads, runs))) = absurd (cc (shows p s byte [] (On next) wants leads))
 fed names p s left left' m byte step_end.Going wants gives (Heard other, (next, (quiet, place, leads, runs))) =
     let same : other ≡ byte = cc quiet in
@@ -173,7 +173,7 @@ one_shown : (p : Program) (s : State) (bytes : List ℕ) (events : List Event) (
 one_shown p s bytes events next e = ap (λ (t : Took). (run_on (run p bytes []) t.events t.next).trace) e ∙ append-nil events
 
 -- memory was refused to a step that was given its byte
-pub taken_in_vain : (p : Program) (s : State) (bytes : List ℕ) (left left' : Option (List ℕ)) (byte : Option ℕ) → WantsByte p s → left ≡ Some (drop s.place bytes) → Gives {E = Fault} left left' (Ok byte) → HasLeft p s bytes 0 left' NoMemory
+pub taken_in_vain : (p : Program) (s : State) (bytes : List ℕ) (left left' : Option (List ℕ)) (byte : Option ℕ) → WantsByte p s → left ≡ Some (drop s.place bytes) → Yields {E = Fault} left left' (Ok byte) → HasLeft p s bytes 0 left' NoMemory
 taken_in_vain p s bytes left left' byte wants is gives =
     let got = gives_told bytes s.place left left' byte is gives in
     let w = wants bytes 0 in

@@ -4,7 +4,7 @@ use Rattle.ir_tree.specs.declared.block.Block.{Block as MeantBlock}
 use Rattle.ir_meaning.specs.Act as act
 use Rattle.ir_meaning.specs.Act.{Leads', Leaves, Stuck, enters_block, find_block, jumps, phis_bound}
 use Rattle.ir_meaning.specs.Frame.{Locals}
-use Rattle.ir_meaning.specs.declared.fault.Cause.{Cause}
+use Rattle.ir_tree.specs.declared.cause.Cause.{Cause}
 use Rattle.ir_meaning.specs.declared.value.Value.{Value}
 use Rattle.ir_machine.specs.declared.memory.Memory.{Memory}
 use Rattle.ir_interp.specs.Locals.{AreLocals}

@@ -9,7 +9,7 @@ use Rattle.ir_meaning.specs.Act.{Leads', Leaves, Stuck, exit_of, exits, jumps}
 use Rattle.ir_meaning.specs.Fault as fault
 use Rattle.ir_meaning.specs.Frame.{value_of}
 use Rattle.ir_meaning.specs.Program.{advance}
-use Rattle.ir_meaning.specs.declared.fault.Cause.{Cause}
+use Rattle.ir_tree.specs.declared.cause.Cause.{Cause}
 use Rattle.ir_machine.specs.Memories.{numbers_of}
 use Rattle.ir_machine.specs.declared.block.Block.{Block as MemoryBlock}
 use Rattle.ir_machine.specs.declared.memory.Memory.{Memory}

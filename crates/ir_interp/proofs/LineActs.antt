@@ -13,11 +13,11 @@ use Rattle.ir_interp.specs.declared.registers.Registers.{Registers}
 use Rattle.ir_interp.specs.declared.ran.Ran.{Ran}
 use Rattle.ir_interp.specs.declared.ran.Ran.TheVariants.{Undefined, Uninit, Went}
 use Rattle.ir_interp.specs.Lines.{HasActed, IsLine}
-use Rattle.ir_interp.specs.declared.line.Line.{Line}
+use Rattle.ir_interp.specs.declared.line.CodeLine.{CodeLine}
 use Rattle.ir_interp.specs.declared.line.Reached.TheVariants as reached
 
 -- the effect of the line on the frame
-line_effect : (names : List Symbol) (sig : Signature) (input : List ℕ) (place choice : ℕ) (frame : Frame) (l : MeantLine) (rest : List MeantLine) (line : Line) (memory : MeantMemory) (effect : meaning.Effect) →
+line_effect : (names : List Symbol) (sig : Signature) (input : List ℕ) (place choice : ℕ) (frame : Frame) (l : MeantLine) (rest : List MeantLine) (line : CodeLine) (memory : MeantMemory) (effect : meaning.Effect) →
     frame.rest ≡ l ∷ rest → IsLine names sig l line → meaning.execute sig input memory place choice (task_meant names frame.locals line.task) ≡ effect →
     act sig input frame memory place choice ≡ apply (record frame { rest = rest }) l.local effect
 unfolding act
@@ -26,7 +26,7 @@ line_effect names sig input place choice frame l rest line memory effect e is h 
     ∙ ap (λ (t : meaning.Task). apply (record frame { rest = rest }) l.local (meaning.execute sig input memory place choice t)) (sym (is.task frame.locals))
     ∙ ap (λ (x : meaning.Effect). apply (record frame { rest = rest }) l.local x) h
 
-pub acted : (names : List Symbol) (sig : Signature) (input : List ℕ) (place choice : ℕ) (frame : Frame) (l : MeantLine) (rest : List MeantLine) (line : Line)
+pub acted : (names : List Symbol) (sig : Signature) (input : List ℕ) (place choice : ℕ) (frame : Frame) (l : MeantLine) (rest : List MeantLine) (line : CodeLine)
     (m : Memory) (memory : MeantMemory) (m' : Memory) (r' : Registers) (ran : Ran) → frame.rest ≡ l ∷ rest → IsLine names sig l line →
     IsRan names m memory frame.locals line.local choice (task_meant names frame.locals line.task) m' r' ran →
     HasActed names m memory frame rest m' r' place ran (act sig input frame memory place choice)

@@ -2,7 +2,7 @@
 use Rattle.std.proofs.Common.{◌≡◌, suc, List, [], drop, slice_get, Some, None, sym, ◌∙◌, arith}
 use Rattle.ir_tree.specs.declared.instr.Line.{Line as MeantLine}
 use Rattle.ir_machine.specs.declared.memory.Memory.{Memory}
-use Rattle.ir_interp.specs.declared.line.Line.{Line}
+use Rattle.ir_interp.specs.declared.line.CodeLine.{CodeLine}
 use Rattle.ir_interp.specs.Code.{block_of}
 use Rattle.ir_interp.specs.Scenes.{IsNext, Plays, Scene}
 use Rattle.ir_interp.specs.declared.code.Block.{Block}
@@ -13,7 +13,7 @@ use Rattle.ir_interp.proofs.Leaving.{own_block}
 use Rattle.ir_interp.proofs.Positions.{below_length, dropped_next, dropped_none, past_length, there}
 
 -- a line that is there is the next one
-pub next_line : (z : Scene) (code : Code) (m : Memory) (f : Frame) (c : Block) (line : Line) → (s : Plays z code m f) → block_of code f.function f.block ≡ Some c → slice_get c.lines.items f.line ≡ Some line →
+pub next_line : (z : Scene) (code : Code) (m : Memory) (f : Frame) (c : Block) (line : CodeLine) → (s : Plays z code m f) → block_of code f.function f.block ≡ Some c → slice_get c.lines.items f.line ≡ Some line →
     (l : MeantLine) × ((rest : List MeantLine) × IsNext z m line l rest)
 next_line z code m f c line s here is =
     let b = own_block z code m f c s here in

@@ -9,7 +9,7 @@ use Rattle.std.specs.List.{slice_index_or}
 use Rattle.ir_meaning.specs.Fault as fault
 use Rattle.ir_meaning.specs.Frame.{Locals}
 use Rattle.ir_meaning.specs.Memory.{Memory as MeantMemory}
-use Rattle.ir_meaning.specs.declared.fault.Cause.TheVariants.{PoisonArgument}
+use Rattle.ir_tree.specs.declared.cause.Cause.TheVariants.{PoisonArgument}
 use Rattle.ir_meaning.specs.declared.value.Value.{Value as MeantValue}
 use Rattle.ir_machine.specs.Meant.{meant}
 use Rattle.ir_machine.specs.declared.memory.Memory.{Memory}

@@ -7,22 +7,22 @@ use Rattle.ir_meaning.specs.declared.value.Value.{Value as MeantValue}
 use Rattle.ir_machine.specs.Meant.{meant}
 use Rattle.ir_machine.specs.declared.memory.Memory.{Memory}
 use Rattle.ir_machine.specs.declared.scalar.Scalar.{Scalar}
-use Rattle.ir_interp.specs.Locals.{AreLocals, IsKnown, IsValid, Reads, register_at}
+use Rattle.ir_interp.specs.Locals.{AreLocals, IsKnown, IsValid, Evaluates, register_at}
 use Rattle.ir_interp.specs.declared.registers.Registers.{Registers}
 use Rattle.ir_interp.specs.declared.source.Source.{Source}
 use Rattle.ir_interp.specs.declared.source.Source.TheVariants.{Known, Register}
 
 pub reads_register : (names : List Symbol) (m : Memory) (memory : MeantMemory) (r : Registers) (locals : Locals) (s : Source) (x : ℕ) (v : Scalar) →
-    s ≡ Register x → v ≡ register_at r x → AreLocals names m memory r locals → Reads names m memory locals s v
+    s ≡ Register x → v ≡ register_at r x → AreLocals names m memory r locals → Evaluates names m memory locals s v
 reads_register names m memory r locals s x v e f a =
-    subst (λ (t : Source). Reads names m memory locals t v) (sym e)
-    (subst (λ (w : Scalar). Reads names m memory locals (Register x) w) (sym f) (a.means x, a.valid x))
+    subst (λ (t : Source). Evaluates names m memory locals t v) (sym e)
+    (subst (λ (w : Scalar). Evaluates names m memory locals (Register x) w) (sym f) (a.means x, a.valid x))
 
 pub reads_known : (names : List Symbol) (m : Memory) (memory : MeantMemory) (locals : Locals) (s : Source) (v : Scalar) →
-    s ≡ Known v → IsKnown names m memory s → Reads names m memory locals s v
+    s ≡ Known v → IsKnown names m memory s → Evaluates names m memory locals s v
 reads_known names m memory locals s v e k =
     let valid : IsValid names m memory v = subst (λ (t : Source). IsKnown names m memory t) e k in
-    subst (λ (t : Source). Reads names m memory locals t v) (sym e) (refl, valid)
+    subst (λ (t : Source). Evaluates names m memory locals t v) (sym e) (refl, valid)
 
 -- registers that read the same stand for the same
 pub same_locals : (names : List Symbol) (m : Memory) (memory : MeantMemory) (r r' : Registers) (locals : Locals) → ((x : ℕ) → register_at r' x ≡ register_at r x) →

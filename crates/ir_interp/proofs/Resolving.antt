@@ -12,7 +12,7 @@ use Rattle.ir_meaning.specs.declared.value.Value.{Value as MeantValue}
 use Rattle.ir_machine.specs.Meant.{base_meant, meant, symbol_at}
 use Rattle.ir_machine.specs.declared.memory.Memory.{Memory}
 use Rattle.ir_meaning.specs.Fault as fault
-use Rattle.ir_meaning.specs.declared.fault.Cause.TheVariants.{CallOfNoFunction}
+use Rattle.ir_tree.specs.declared.cause.Cause.TheVariants.{CallOfNoFunction}
 use Rattle.ir_meaning.specs.declared.value.Base.{Base as MeantBase}
 use Rattle.ir_meaning.specs.declared.value.Base.TheVariants as meant_base
 use Rattle.ir_meaning.specs.declared.value.Value.TheVariants as value
@@ -34,7 +34,7 @@ use Rattle.ir_interp.specs.declared.callee.Entity.{Entity}
 use Rattle.ir_interp.specs.declared.callee.Resolved.{Resolved}
 use Rattle.ir_interp.specs.declared.callee.Resolved.TheVariants as resolved
 use Rattle.ir_interp.specs.declared.host.Host.TheVariants as host
-use Rattle.ir_interp.specs.declared.line.Line.{Line}
+use Rattle.ir_interp.specs.declared.line.CodeLine.{CodeLine}
 use Rattle.ir_interp.specs.Scenes.{Hears, IsNext, Plays, Scene, TakesSo, Works}
 use Rattle.ir_interp.specs.declared.code.Code.{Code}
 use Rattle.ir_interp.specs.declared.frame.Frame.{Frame}
@@ -47,7 +47,7 @@ IsAnswer entities r result callee passed answer = (names : List Symbol) (m : Mem
     AreLocals names m memory r locals → IsKnown names m memory callee → calls_value sig input memory place result (regs_of passed) values (source_meant names locals callee) ≡ call_effect names input memory place values answer
 
 -- the effect of the line, by what its call was resolved to
-pub call_works : (z : Scene) (code : Code) (m : Memory) (f : Frame) (line : Line) (l : MeantLine) (rest : List MeantLine) (t : Task) (answer : Resolved) (result : Option Reg) (callee : Source) (passed : List Typed) →
+pub call_works : (z : Scene) (code : Code) (m : Memory) (f : Frame) (line : CodeLine) (l : MeantLine) (rest : List MeantLine) (t : Task) (answer : Resolved) (result : Option Reg) (callee : Source) (passed : List Typed) →
     line.task ≡ t → ((locals : Locals) → task_meant z.names locals t ≡ execute.ToCall result (regs_of passed) (values_meant z.names locals passed) (source_meant z.names locals callee)) → Plays z code m f → IsNext z m line l rest →
     IsKnown z.names m z.memory callee → IsAnswer code.entities.items f.registers result callee passed answer →
     (input : List ℕ) (place choice : ℕ) →
@@ -57,20 +57,20 @@ call_works z code m f line l rest t answer result callee passed is task s next k
     ∙ ap (λ (x : execute.Task). execute.execute z.program.signature input z.memory place choice x) (task z.frame.locals)
     ∙ h z.names m z.memory z.frame.locals z.program.signature input place (values_meant z.names z.frame.locals passed) s.code.kinds s.frame.reads known
 
-pub call_known : (z : Scene) (m : Memory) (line : Line) (l : MeantLine) (rest : List MeantLine) (t : Task) → line.task ≡ t → IsNext z m line l rest → IsTaskKnown z.names m z.memory t
+pub call_known : (z : Scene) (m : Memory) (line : CodeLine) (l : MeantLine) (rest : List MeantLine) (t : Task) → line.task ≡ t → IsNext z m line l rest → IsTaskKnown z.names m z.memory t
 call_known z m line l rest t is next = subst (λ (x : Task). IsTaskKnown z.names m z.memory x) is next.known
 
-to_local : (z : Scene) (m : Memory) (choice : ℕ) (given : Option (Option ℕ)) (line : Line) (l : MeantLine) (rest : List MeantLine) (effect : ℕ → Effect) → IsNext z m line l rest → Works z choice given l.local rest effect → Works z choice given line.local rest effect
+to_local : (z : Scene) (m : Memory) (choice : ℕ) (given : Option (Option ℕ)) (line : CodeLine) (l : MeantLine) (rest : List MeantLine) (effect : ℕ → Effect) → IsNext z m line l rest → Works z choice given l.local rest effect → Works z choice given line.local rest effect
 to_local z m choice given line l rest effect next w = subst (λ (o : Option ℕ). Works z choice given o rest effect) (sym next.is.local) w
 
 -- the line has the effect of the call
-pub works_so : (z : Scene) (m : Memory) (choice : ℕ) (given : Option (Option ℕ)) (line : Line) (l : MeantLine) (rest : List MeantLine) (values : List MeantValue) (answer : Resolved) (effect : ℕ → Effect) → IsNext z m line l rest →
+pub works_so : (z : Scene) (m : Memory) (choice : ℕ) (given : Option (Option ℕ)) (line : CodeLine) (l : MeantLine) (rest : List MeantLine) (values : List MeantValue) (answer : Resolved) (effect : ℕ → Effect) → IsNext z m line l rest →
     ((input : List ℕ) (place : ℕ) → execute.execute z.program.signature input z.memory place choice (task_meant z.names z.frame.locals line.task) ≡ call_effect z.names input z.memory place values answer) →
     ((input : List ℕ) (place : ℕ) → call_effect z.names input z.memory place values answer ≡ effect place) → Works z choice given line.local rest effect
 works_so z m choice given line l rest values answer effect next h same =
     to_local z m choice given line l rest effect next (line_works z m choice given line l rest effect next (λ input place. h input place ∙ same input place))
 
-pub hears_so : (z : Scene) (m : Memory) (line : Line) (l : MeantLine) (rest : List MeantLine) (values : List MeantValue) → IsNext z m line l rest →
+pub hears_so : (z : Scene) (m : Memory) (line : CodeLine) (l : MeantLine) (rest : List MeantLine) (values : List MeantValue) → IsNext z m line l rest →
     ((input : List ℕ) (place choice : ℕ) → execute.execute z.program.signature input z.memory place choice (task_meant z.names z.frame.locals line.task) ≡ call_effect z.names input z.memory place values (resolved.Host host.GetChar)) →
     Hears z line.local rest
 unfolding act

@@ -3,7 +3,7 @@ use Rattle.std.proofs.Common.{◌≡◌, ◌↔◌, ℕ, zero, suc, ◌+◌, ◌
 use Rattle.std.specs.Prelude.{All}
 use Rattle.std.proofs.lemmas.List.Elements.{All-cons, All-head, All-nil, All-tail}
 use Rattle.ir_interp.specs.Tasks.{CanRun}
-use Rattle.ir_interp.specs.declared.line.Line.{Line}
+use Rattle.ir_interp.specs.declared.line.CodeLine.{CodeLine}
 use Rattle.ir_interp.specs.Code.{IsRunnable, block_in, function_in, function_of}
 use Rattle.ir_interp.specs.Sound.{AreSound, IsBodySound}
 use Rattle.ir_interp.specs.Steps.{CanBegin}
@@ -29,7 +29,7 @@ runs_where_sound code h i q c k line at here = by (slice_get code.functions.item
   by (Some (Some f)) e there =
       let body = all_there IsBodySound code.functions.items h i (Some f) e in
       let block = all_there (λ (b : Block). AreSound b.lines.items) f.blocks.items body q c there in
-      all_there (λ (l : Line). CanRun l.task) c.lines.items block k line here
+      all_there (λ (l : CodeLine). CanRun l.task) c.lines.items block k line here
 
 pub sound_where_runs : (code : Code) → IsRunnable code → All IsBodySound code.functions.items
 sound_where_runs code h = all_of IsBodySound code.functions.items (λ i o e. by i o e) where
@@ -38,7 +38,7 @@ sound_where_runs code h = all_of IsBodySound code.functions.items (λ i o e. by 
   by i (Some f) e =
       all_of (λ (b : Block). AreSound b.lines.items) f.blocks.items
       (λ q c at.
-      all_of (λ (l : Line). CanRun l.task) c.lines.items
+      all_of (λ (l : CodeLine). CanRun l.task) c.lines.items
       (λ k line here. h i q c k line (ap (λ (o : Option (Option Function)). block_in (function_in o) q) e ∙ at) here))
 
 -- the function that is there is the one that takes so many arguments

@@ -7,7 +7,7 @@ use Rattle.ir_meaning.specs.Execute as meaning
 use Rattle.ir_meaning.specs.Fault as fault
 use Rattle.ir_meaning.specs.Frame.{Locals, bind}
 use Rattle.ir_meaning.specs.Memory.{Memory as MeantMemory}
-use Rattle.ir_meaning.specs.declared.fault.Cause.{Cause}
+use Rattle.ir_tree.specs.declared.cause.Cause.{Cause}
 use Rattle.ir_meaning.specs.declared.value.Value.{Value as MeantValue}
 use Rattle.ir_machine.specs.Meant.{meant}
 use Rattle.ir_machine.specs.Memories.{GainsOnly, IsMemoryStored}

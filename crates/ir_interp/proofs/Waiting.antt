@@ -5,7 +5,7 @@ use Rattle.ir_tree.specs.declared.instr.Line.{Line as MeantLine}
 use Rattle.ir_meaning.specs.Execute.{Asked}
 use Rattle.ir_meaning.specs.Fault as fault
 use Rattle.ir_meaning.specs.Frame.{bind}
-use Rattle.ir_meaning.specs.declared.fault.Cause.TheVariants.{CallOfNoFunction}
+use Rattle.ir_tree.specs.declared.cause.Cause.TheVariants.{CallOfNoFunction}
 use Rattle.ir_meaning.specs.declared.value.Value.{Value as MeantValue}
 use Rattle.ir_meaning.specs.declared.value.Value.TheVariants.{Number}
 use Rattle.ir_machine.specs.Meant.{symbol_at}

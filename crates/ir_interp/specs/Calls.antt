@@ -5,10 +5,10 @@ use Rattle.ir_tree.specs.declared.operand.Symbol.{Symbol}
 use Rattle.ir_meaning.specs.Execute.{Asked, Broke, Effect, Went, calls_host, calls_kind}
 use Rattle.ir_meaning.specs.Fault as fault
 use Rattle.ir_meaning.specs.Frame as frame
-use Rattle.ir_meaning.specs.Frame.{AFunction, AHost, AVariable, Kind, Missing, Signature}
+use Rattle.ir_meaning.specs.Frame.{AFunction, AHost, AVariable, SymbolKind, Missing, Signature}
 use Rattle.ir_meaning.specs.Memory.{Memory as MeantMemory}
 use Rattle.ir_meaning.specs.declared.event.Event.TheVariants.{Wrote}
-use Rattle.ir_meaning.specs.declared.fault.Cause.TheVariants.{PoisonArgument}
+use Rattle.ir_tree.specs.declared.cause.Cause.TheVariants.{PoisonArgument}
 use Rattle.ir_meaning.specs.declared.value.Value.{Value as MeantValue}
 use Rattle.ir_meaning.specs.declared.value.Value.TheVariants.{Number}
 use Rattle.ir_machine.specs.Meant.{meant, symbol_at}
@@ -27,7 +27,7 @@ host_meant host.PutChar = frame.PutChar
 host_meant host.GetChar = frame.GetChar
 
 -- what is not called is a variable, or has no definition
-abbrev pub IsKind : Entity → Kind → Type 0
+abbrev pub IsKind : Entity → SymbolKind → Type 0
 IsKind (entity.Function params result) kind = kind ≡ AFunction params.items result
 IsKind (entity.Host h) kind = kind ≡ AHost (host_meant h)
 IsKind entity.Other kind = (kind ≡ Missing) ⊎ ((number : ℕ) × (kind ≡ AVariable number))
@@ -45,7 +45,7 @@ call_effect names input memory place values (resolved.Undefined cause) = Broke (
 
 -- a call of the symbol of this index and kind asks for this
 abbrev pub IsResolved : ℕ → Entity → Option Reg → List Reg → Resolved → Type 0
-IsResolved i e result regs r = (names : List Symbol) (kind : Kind) (input : List ℕ) (memory : MeantMemory) (place : ℕ) (values : List MeantValue) → IsKind e kind →
+IsResolved i e result regs r = (names : List Symbol) (kind : SymbolKind) (input : List ℕ) (memory : MeantMemory) (place : ℕ) (values : List MeantValue) → IsKind e kind →
     calls_kind kind (symbol_at names i) input memory place result regs values ≡ call_effect names input memory place values r
 
 -- a function that is asked for is one of so many

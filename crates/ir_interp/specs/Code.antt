@@ -19,7 +19,7 @@ use Rattle.ir_interp.specs.Tasks.{CanRun, IsTaskKnown}
 use Rattle.ir_interp.specs.Calls.{AreKinds}
 use Rattle.ir_interp.specs.Exits.{IsExitKnown, exit_meant}
 use Rattle.ir_interp.specs.Lines.{IsLine}
-use Rattle.ir_interp.specs.declared.line.Line.{Line}
+use Rattle.ir_interp.specs.declared.line.CodeLine.{CodeLine}
 use Rattle.ir_interp.specs.declared.code.Block.{Block}
 use Rattle.ir_interp.specs.declared.code.Code.{Code}
 use Rattle.ir_interp.specs.declared.code.Function.{Function}
@@ -68,7 +68,7 @@ pub record IsBlock (names : List Symbol) (sig : Signature) (blocks : List MeantB
   pub short : c.before + length b.lines + 1 < 2 ^ 64
   pub phis : (locals : Locals) (from : ℕ) (after : Locals) → phis_bound sig locals from b.phis after ≡ phis_meant names locals from c.phis.items after
   pub long : length c.lines.items ≡ length b.lines
-  pub lines : (k : ℕ) (l : MeantLine) (line : Line) → slice_get b.lines k ≡ Some l → slice_get c.lines.items k ≡ Some line → IsLine names sig l line
+  pub lines : (k : ℕ) (l : MeantLine) (line : CodeLine) → slice_get b.lines k ≡ Some l → slice_get c.lines.items k ≡ Some line → IsLine names sig l line
   pub exit : (locals : Locals) → exit_meant names locals c.exit ≡ at_positions blocks (exit_of (value_of sig locals) b.end)
 
 abbrev pub locals_of : List Param → List ℕ
@@ -100,7 +100,7 @@ pub record IsCode (names : List Symbol) (p : Program) (code : Code) : Type 0 whe
 
 pub record IsBlockKnown (names : List Symbol) (m : Memory) (memory : MeantMemory) (c : Block) : Type 0 where
   pub phis : ArePhisKnown names m memory c.phis.items
-  pub lines : (k : ℕ) (line : Line) → slice_get c.lines.items k ≡ Some line → IsTaskKnown names m memory line.task
+  pub lines : (k : ℕ) (line : CodeLine) → slice_get c.lines.items k ≡ Some line → IsTaskKnown names m memory line.task
   pub exit : IsExitKnown names m memory c.exit
 
 -- the values that stand in the code are valid, and stay so where handles do
@@ -109,4 +109,4 @@ Knows names code m memory = (m' : Memory) (memory' : MeantMemory) → KeepsHandl
 
 -- each line can run: its widths, alignments, shapes and casts are those of sound code
 abbrev pub IsRunnable : Code → Type 0
-IsRunnable code = (i q : ℕ) (c : Block) (k : ℕ) (line : Line) → block_of code i q ≡ Some c → slice_get c.lines.items k ≡ Some line → CanRun line.task
+IsRunnable code = (i q : ℕ) (c : Block) (k : ℕ) (line : CodeLine) → block_of code i q ≡ Some c → slice_get c.lines.items k ≡ Some line → CanRun line.task

@@ -5,7 +5,7 @@ use Rattle.ir_meaning.specs.Act.{Leads', Leaves, Stuck, by_value, side}
 use Rattle.ir_meaning.specs.Act as act
 use Rattle.ir_meaning.specs.Frame.{Locals}
 use Rattle.ir_meaning.specs.Memory.{Memory as MeantMemory}
-use Rattle.ir_meaning.specs.declared.fault.Cause.TheVariants.{UnreachableReached}
+use Rattle.ir_tree.specs.declared.cause.Cause.TheVariants.{UnreachableReached}
 use Rattle.ir_meaning.specs.declared.value.Value.{Value as MeantValue}
 use Rattle.ir_machine.specs.Meant.{meant}
 use Rattle.ir_machine.specs.declared.memory.Memory.{Memory}

@@ -17,7 +17,7 @@ use Rattle.ir_interp.specs.declared.ran.Ran.{Ran}
 use Rattle.ir_interp.specs.declared.ran.Ran.TheVariants.{Undefined, Uninit, Went}
 use Rattle.ir_interp.specs.declared.task.Task.{Task}
 use Rattle.ir_interp.specs.declared.task.Task.TheVariants as task
-use Rattle.ir_interp.specs.declared.line.Line.{Line}
+use Rattle.ir_interp.specs.declared.line.CodeLine.{CodeLine}
 use Rattle.ir_interp.specs.declared.line.Reached.{Reached}
 use Rattle.ir_interp.specs.declared.line.Reached.TheVariants as reached
 
@@ -26,7 +26,7 @@ IsCall (task.Call result callee arguments) = Unit {0}
 IsCall _ = ⊥
 
 -- what a line came to: of a call nothing was done
-abbrev pub IsReached : List Symbol → Memory → MeantMemory → Locals → Line → ℕ → Memory → Registers → Reached → Type 0
+abbrev pub IsReached : List Symbol → Memory → MeantMemory → Locals → CodeLine → ℕ → Memory → Registers → Reached → Type 0
 IsReached names m memory locals line choice m' r' (reached.Ran ran) = IsRan names m memory locals line.local choice (task_meant names locals line.task) m' r' ran
 IsReached names m memory locals line choice m' r' reached.Call = IsCall line.task × StandFor names m memory m' r' memory locals
 
@@ -42,7 +42,7 @@ HasNumbers m m' (reached.Ran ran) = HasRanNumbers m m' ran
 HasNumbers m m' reached.Call = numbers_of m'.blocks.items ≡ numbers_of m.blocks.items
 
 -- a line stands for an instruction: it has its result, and does the same whatever the locals
-pub record IsLine (names : List Symbol) (sig : Signature) (l : MeantLine) (line : Line) : Type 0 where
+pub record IsLine (names : List Symbol) (sig : Signature) (l : MeantLine) (line : CodeLine) : Type 0 where
   pub local : line.local ≡ l.local
   pub task : (locals : Locals) → task_meant names locals line.task ≡ evaluate (value_of sig locals) l.instr
 
@@ -58,6 +58,6 @@ HasActed names m memory frame rest m' r' place (Undefined cause) a = a ≡ Break
 HasActed names m memory frame rest m' r' place Uninit a = a ≡ Breaks fault.Uninit
 
 abbrev pub LinesAct : Type 0
-LinesAct = (names : List Symbol) (sig : Signature) (input : List ℕ) (place choice : ℕ) (frame : Frame) (l : MeantLine) (rest : List MeantLine) (line : Line)
+LinesAct = (names : List Symbol) (sig : Signature) (input : List ℕ) (place choice : ℕ) (frame : Frame) (l : MeantLine) (rest : List MeantLine) (line : CodeLine)
     (m : Memory) (memory : MeantMemory) (m' : Memory) (r' : Registers) (ran : Ran) → frame.rest ≡ l ∷ rest → IsLine names sig l line →
     IsReached names m memory frame.locals line choice m' r' (reached.Ran ran) → HasActed names m memory frame rest m' r' place ran (act sig input frame memory place choice)

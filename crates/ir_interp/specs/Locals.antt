@@ -59,5 +59,5 @@ AreKnown names m memory [] = Unit {0}
 AreKnown names m memory (t ∷ ts) = IsKnown names m memory t.source × AreKnown names m memory ts
 
 -- a scalar is the value of a source, and valid
-abbrev pub Reads : List Symbol → Memory → MeantMemory → Locals → Source → Scalar → Type 0
-Reads names m memory locals source v = (meant names v ≡ source_meant names locals source) × IsValid names m memory v
+abbrev pub Evaluates : List Symbol → Memory → MeantMemory → Locals → Source → Scalar → Type 0
+Evaluates names m memory locals source v = (meant names v ≡ source_meant names locals source) × IsValid names m memory v

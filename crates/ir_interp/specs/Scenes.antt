@@ -14,7 +14,7 @@ use Rattle.ir_meaning.specs.Program as program
 use Rattle.ir_meaning.specs.Program.{Program, advance}
 use Rattle.ir_meaning.specs.declared.event.Event.{Event}
 use Rattle.ir_meaning.specs.declared.event.Event.TheVariants.{ReadByte, ReadEnd, Wrote}
-use Rattle.ir_meaning.specs.declared.fault.Cause.TheVariants.{UnreachableReached}
+use Rattle.ir_tree.specs.declared.cause.Cause.TheVariants.{UnreachableReached}
 use Rattle.ir_meaning.specs.declared.fault.Place.{Place as MeantPlace}
 use Rattle.ir_meaning.specs.declared.value.Value.{Value as MeantValue}
 use Rattle.ir_meaning.specs.declared.value.Value.TheVariants.{Number}
@@ -27,7 +27,7 @@ use Rattle.ir_interp.specs.Locals.{IsMemory, IsValid}
 use Rattle.ir_interp.specs.Ran.{HasRoom}
 use Rattle.ir_interp.specs.Tasks.{IsTaskKnown}
 use Rattle.ir_interp.specs.Lines.{IsLine}
-use Rattle.ir_interp.specs.declared.line.Line.{Line}
+use Rattle.ir_interp.specs.declared.line.CodeLine.{CodeLine}
 use Rattle.ir_interp.specs.Code.{IsCode, Knows}
 use Rattle.ir_interp.specs.Frames.{IsFrame, Stacks}
 use Rattle.ir_interp.specs.declared.code.Code.{Code}
@@ -163,7 +163,7 @@ HasJumped z m f f' target false =
 -- ---- lines
 
 -- the next line of the frame, and what it is in the code
-pub record IsNext (z : Scene) (m : Memory) (line : Line) (l : MeantLine) (rest : List MeantLine) : Type 0 where
+pub record IsNext (z : Scene) (m : Memory) (line : CodeLine) (l : MeantLine) (rest : List MeantLine) : Type 0 where
   pub next : z.frame.rest ≡ l ∷ rest
   pub is : IsLine z.names z.program.signature l line
   pub known : IsTaskKnown z.names m z.memory line.task

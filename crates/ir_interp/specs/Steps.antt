@@ -22,12 +22,12 @@ use Rattle.ir_interp.specs.Frames.{IsFrame, Stacks, Wait}
 use Rattle.ir_interp.specs.Scenes.{Has, IsQuiet, IsValidAnswer, Shown, answer_meant, behind, events_of, heard}
 use Rattle.ir_interp.specs.declared.code.Code.{Code}
 use Rattle.ir_interp.specs.declared.code.Function.{Function}
-use Rattle.ir_interp.specs.declared.step_end.Place.{Place}
+use Rattle.ir_interp.specs.declared.step_end.StepPlace.{StepPlace}
 use Rattle.ir_interp.specs.declared.step_end.StepEnd.{StepEnd}
 use Rattle.ir_interp.specs.declared.step_end.StepEnd.TheVariants.{Going, Returned, Undefined, Uninit, Wants, Wrote}
 use Rattle.ir_interp.specs.declared.machine.Machine.{Machine}
 
-abbrev pub place_meant : List Symbol → Place → MeantPlace
+abbrev pub place_meant : List Symbol → StepPlace → MeantPlace
 place_meant names at = record { symbol = symbol_at names at.function; instruction = at.instruction }
 
 -- the machine runs on, in this state

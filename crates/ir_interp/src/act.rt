@@ -9,9 +9,9 @@ use crate::call::run_call;
 use crate::code::Code;
 use crate::frame::{Did, Frame};
 use crate::jump::leave_block;
-use crate::{Line, Ran, Reached, run_line};
+use crate::{CodeLine, Ran, Reached, run_line};
 use ir_machine::{Memory, Scalar};
-use ir_meaning::Cause;
+use ir_tree::Cause;
 use std::alloc::{AllocError, Global};
 
 /// Runs a line.
@@ -20,7 +20,7 @@ fn run(
     frame: &mut Frame,
     code: &Code,
     memory: &mut Memory,
-    line: &Line,
+    line: &CodeLine,
     choice: u64,
     given: Option<Option<u8>>,
 ) -> Result<Did, AllocError>

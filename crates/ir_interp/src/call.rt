@@ -13,9 +13,9 @@ ghost use Rattle.ir_interp.specs.declared.code.Code.{Code};
 use crate::code::Code;
 use crate::frame::{Did, Frame};
 use crate::open::open;
-use crate::{Host, Line, Resolved, Task, Typed, arguments, put_char, resolve};
+use crate::{CodeLine, Host, Resolved, Task, Typed, arguments, put_char, resolve};
 use ir_machine::{Memory, Scalar};
-use ir_meaning::Cause;
+use ir_tree::Cause;
 use std::alloc::{AllocError, Global};
 
 /// Binds the number that the next line gives, and goes on behind it.
@@ -108,7 +108,7 @@ pub(crate) fn run_call(
     frame: &mut Frame,
     code: &Code,
     memory: &Memory,
-    line: &Line,
+    line: &CodeLine,
     given: Option<Option<u8>>,
 ) -> Result<Did, AllocError>
     requires { frame.old.line < usize.MAX }

@@ -14,8 +14,7 @@ use crate::host::Host;
 use crate::registers::Registers;
 use crate::source::{Source, Typed};
 use ir_machine::{Base, Scalar};
-use ir_meaning::Cause;
-use ir_tree::Reg;
+use ir_tree::{Cause, Reg};
 use std::alloc::{AllocError, Global};
 
 /// What a symbol is: a function of a type, a host function, or nothing that is called.

@@ -1,7 +1,7 @@
 //! Programs as the machine runs them.
 ghost use Rattle.std.specs.Prelude.{◌≡◌, option_copied};
 
-use crate::{Entity, Exit, Line, Phi};
+use crate::{CodeLine, Entity, Exit, Phi};
 
 /// A basic block: its number in the function, how many phis, instructions and terminators of the
 /// function stand before its first line, and then its parts over sources.
@@ -10,7 +10,7 @@ pub struct Block<'a> {
     pub number: u32,
     pub before: u64,
     pub phis: Vec<Phi>,
-    pub lines: Vec<Line<'a>>,
+    pub lines: Vec<CodeLine<'a>>,
     pub exit: Exit,
 }
 

@@ -1,8 +1,8 @@
 //! How a run ended, and why it was given up.
 
-use crate::Place;
+use crate::StepPlace;
 use ir_machine::Scalar;
-use ir_meaning::Cause;
+use ir_tree::Cause;
 
 /// How a run ended.
 #[derive(Clone, Copy)]
@@ -10,9 +10,9 @@ pub enum RunEnd {
     /// The function in which it began returned.
     Returned(Option<Scalar>),
     /// Undefined behaviour, why and where.
-    Undefined(Cause, Place),
+    Undefined(Cause, StepPlace),
     /// A read of a byte that was never written, and where.
-    Uninit(Place),
+    Uninit(StepPlace),
     /// It was still running behind the last step that was allowed.
     OutOfSteps,
 }

@@ -11,7 +11,7 @@ use crate::bits::bits_of;
 use crate::registers::Registers;
 use crate::source::Source;
 use ir_machine::Scalar;
-use ir_meaning::Cause;
+use ir_tree::Cause;
 
 /// A case of a `switch`: a number, and the position of the block that it leads to.
 #[derive(Clone, Copy)]

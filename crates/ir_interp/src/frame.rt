@@ -13,7 +13,7 @@ ghost use Rattle.ir_interp.specs.Scenes.{IsValidAnswer, answer_meant};
 
 use crate::Registers;
 use ir_machine::Scalar;
-use ir_meaning::Cause;
+use ir_tree::Cause;
 
 /// An activation of a function: the function by the index of its symbol, the position of the block that it
 /// is in, how many lines of the block are done, its registers, how many blocks of memory lived when it

@@ -8,7 +8,7 @@ use crate::code::{Block, Code};
 use crate::frame::{Did, Frame};
 use crate::{Left, end_slots, leave};
 use ir_machine::{Memory, Scalar};
-use ir_meaning::Cause;
+use ir_tree::Cause;
 use std::alloc::AllocError;
 
 /// Goes to the block at a position, and takes its phis on the edge from the block of a number; false

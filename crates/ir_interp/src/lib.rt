@@ -2,7 +2,7 @@
 //! Language Reference, "Introduction": what a program does is what an abstract machine does; "Instruction Reference").
 //!
 //! An operand is a [`Source`]: a register by its number, or a value that is known before the run. [`Task`] is an
-//! instruction over sources, which needs no look-up by name, a [`Line`] a task and the register that takes its result,
+//! instruction over sources, which needs no look-up by name, a [`CodeLine`] a task and the register that takes its result,
 //! [`Exit`] a terminator, with blocks by their positions. [`Code`] is a program as the machine runs it: for each symbol
 //! of a table what it is and, where it is defined, its blocks by position. A [`Machine`] holds the frames of the calls
 //! that are open and the memory. Below stand `ir_tree`, `lto_bits`, `ir_meaning`, `ir_machine` and the streams of
@@ -59,7 +59,7 @@ pub use exit::{Case, Exit, Left, leave};
 pub use frame::Frame;
 pub use host::{Host, put_char};
 pub use laws::lines_act;
-pub use line::{Line, Reached, run_line};
+pub use line::{CodeLine, Reached, run_line};
 pub use machine::Machine;
 pub use phis::{Edge, Phi};
 pub use ran::Ran;
@@ -67,5 +67,5 @@ pub use registers::Registers;
 pub use running::run;
 pub use slots::end_slots;
 pub use source::{Source, Typed};
-pub use step_end::{Place, StepEnd};
+pub use step_end::{StepEnd, StepPlace};
 pub use task::{Compute, Task};

@@ -22,7 +22,7 @@ use std::alloc::{AllocError, Global};
 
 /// A task, and the register that takes its result.
 #[derive(Drop)]
-pub struct Line<'a> {
+pub struct CodeLine<'a> {
     pub local: Option<u32>,
     pub task: Task<'a>,
 }
@@ -117,7 +117,7 @@ pub fn run_line(
     alloc: Global,
     registers: &mut Registers,
     memory: &mut Memory,
-    line: &Line,
+    line: &CodeLine,
     choice: u64,
 ) -> Result<Reached, AllocError>
     requires { CanRun line.now.task }

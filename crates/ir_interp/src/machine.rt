@@ -16,7 +16,7 @@ use crate::act::act;
 use crate::code::Code;
 use crate::frame::{Did, Frame};
 use crate::open::open;
-use crate::step_end::{Place, StepEnd};
+use crate::step_end::{StepEnd, StepPlace};
 use ir_machine::{Memory, Scalar};
 use std::alloc::{AllocError, Global};
 use std::mem::replace;
@@ -34,19 +34,19 @@ pub struct Machine<'c, 'a> {
 }
 
 /// Where a frame is.
-fn place_in(code: &Code, frame: &Frame) -> Place
+fn place_in(code: &Code, frame: &Frame) -> StepPlace
     ensures { (names : List Symbol) (p : Program) (d : MeantFrame) → IsCode names p code.now → frame.now.function < length names → p.code (symbol_at names frame.now.function) ≡ Some d.function → IsStanding d.function.blocks d frame.now.block frame.now.line → place_meant names result ≡ place_of d }
 {
     let function = frame.function;
     match code.block(function, frame.block) {
-        Some(block) => Place {
+        Some(block) => StepPlace {
             function,
             instruction: block
                 .before
                 .saturating_add(frame.line as u64)
                 .saturating_add(1),
         },
-        None => Place {
+        None => StepPlace {
             function,
             instruction: 0,
         },

@@ -10,7 +10,7 @@ ghost use Rattle.ir_interp.specs.Ran.{HasRoom};
 
 use crate::registers::Registers;
 use ir_machine::Scalar;
-use ir_meaning::Cause;
+use ir_tree::Cause;
 use std::alloc::AllocError;
 
 /// What an instruction came to.

@@ -4,7 +4,7 @@ ghost use Rattle.ir_tree.specs.declared.operand.Symbol.{Symbol};
 ghost use Rattle.ir_meaning.specs.Frame.{Locals};
 ghost use Rattle.ir_meaning.specs.Memory.{Memory as MeantMemory};
 ghost use Rattle.ir_machine.specs.declared.memory.Memory.{Memory};
-ghost use Rattle.ir_interp.specs.Locals.{AreLocals, IsKnown, Reads, register_at};
+ghost use Rattle.ir_interp.specs.Locals.{AreLocals, IsKnown, Evaluates, register_at};
 
 use crate::source::Source;
 use ir_machine::Scalar;
@@ -38,7 +38,7 @@ impl Registers {
 
     /// The value of a source.
     pub fn value(&self, source: Source) -> Scalar
-        ensures { (names : List Symbol) (m : Memory) (memory : MeantMemory) (locals : Locals) → AreLocals names m memory self.now locals → IsKnown names m memory source → Reads names m memory locals source result }
+        ensures { (names : List Symbol) (m : Memory) (memory : MeantMemory) (locals : Locals) → AreLocals names m memory self.now locals → IsKnown names m memory source → Evaluates names m memory locals source result }
     {
         match source {
             Source::Register(register) => self.read(register),

@@ -9,7 +9,7 @@ ghost use Rattle.ir_interp.specs.Steps.{CanBegin};
 
 use crate::code::{Block, Code, Function};
 use crate::extent::is_laid_out;
-use crate::{Compute, Line, Task, Typed};
+use crate::{CodeLine, Compute, Task, Typed};
 use ir_tree::{CastOp, Reg};
 
 /// Whether an integer has 1 to 64 bits.
@@ -77,7 +77,7 @@ fn can_run(task: &Task) -> bool
 }
 
 /// Whether the lines of a block can run.
-fn are_sound(lines: &[Line]) -> bool
+fn are_sound(lines: &[CodeLine]) -> bool
     ensures { IsTrue result ↔ AreSound lines.now }
 {
     lines.iter().all(|line| can_run(&line.task))

@@ -1,13 +1,13 @@
 //! What a step came to.
 
 use ir_machine::Scalar;
-use ir_meaning::Cause;
+use ir_tree::Cause;
 
 /// An instruction or terminator of a function: the function by the index of its symbol in the table, and
 /// the number of the instruction, counted from 1 over phis, instructions and terminators in the order
 /// of the text.
 #[derive(Clone, Copy)]
-pub struct Place {
+pub struct StepPlace {
     pub function: u32,
     pub instruction: u64,
 }
@@ -24,7 +24,7 @@ pub enum StepEnd {
     /// The function in which the run began returned.
     Returned(Option<Scalar>),
     /// The run ends in undefined behaviour.
-    Undefined(Cause, Place),
+    Undefined(Cause, StepPlace),
     /// The run ends in a read of a byte that was never written.
-    Uninit(Place),
+    Uninit(StepPlace),
 }

@@ -2,9 +2,9 @@
 use Rattle.std.proofs.Common.{◌≡◌, ℕ, zero, suc, ◌-◌, ◌≤◌, ◌<◌, Bool, true, false, ◌||◌, ◌&&◌, nat_eq, Option, Some, None, List, [], ◌∷◌, get_or, take, drop, length, refl, sym, ap, ◌∙◌, arith}
 use Rattle.std.proofs.Math.Seq.{take-length}
 use Rattle.std.specs.Str.{bytes_eq}
-use Rattle.ir_lex.specs.Heads.{begins_with}
+use Rattle.ir_lex.specs.TokenKinds.{begins_with}
 use Rattle.ir_lex.specs.declared.quotes.Escape.{Escape}
-use Rattle.ir_lex.specs.declared.token.Kind.{Kind}
+use Rattle.ir_lex.specs.declared.token.TokenForm.{TokenForm}
 use Rattle.ir_lex.specs.Quotes.{content, inside, stripped, has_backslash, has_zero, spells, spelled_at, unescaped, unescaped_behind}
 
 behind : (n : ℕ) (bs : List ℕ) → unescaped_behind n bs ≡ unescaped_behind 0 (drop n bs)
@@ -54,7 +54,7 @@ unescaped_plain (b ∷ bs) h =
     both true t h = absurd cc
     both false t h = (refl, h)
 
-pub content_plain : (kind : Kind) (text bare quoted : List ℕ) → bare ≡ stripped kind text → Some quoted ≡ inside bare → has_backslash quoted ≡ false → quoted ≡ content kind text
+pub content_plain : (kind : TokenForm) (text bare quoted : List ℕ) → bare ≡ stripped kind text → Some quoted ≡ inside bare → has_backslash quoted ≡ false → quoted ≡ content kind text
 unfolding content
 content_plain kind text bare quoted e f h = sym (ap (λ (o : Option (List ℕ)). elim o as (λ p. List ℕ) [ None ↦ stripped kind text | Some q ↦ unescaped q ]) (sym (f ∙ ap inside e)) ∙ unescaped_plain quoted h)
 

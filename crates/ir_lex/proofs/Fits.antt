@@ -1,8 +1,8 @@
 -- What the longest row is, by the first byte.
 use Rattle.std.proofs.Common.{◌≡◌, ℕ, suc, ◌+◌, ◌<◌, ◌≤◌, true, false, cond, nat_eq, nat_lt, List, ◌∷◌, refl, ◌∙◌, arith, add-one}
 use Rattle.std.proofs.lemmas.Grind.{common_steps}
-use Rattle.ir_lex.specs.declared.token.Kind.{Kind}
-use Rattle.ir_lex.specs.declared.token.Kind.TheVariants as kinds
+use Rattle.ir_lex.specs.declared.token.TokenForm.{TokenForm}
+use Rattle.ir_lex.specs.declared.token.TokenForm.TheVariants as forms
 use Rattle.ir_lex.specs.declared.rows.Fit.{Fit}
 use Rattle.std.specs.Char.{is_ascii_digit, is_ascii_graphic}
 use Rattle.std.specs.Int.{is_in_range}
@@ -10,35 +10,35 @@ use Rattle.ir_lex.specs.Bytes.{starts_word, run, has}
 use Rattle.ir_lex.specs.Rows.{Plain, fit, better, rest_fit, behind, number_len, word_len, meta_len, dots_len, other_len, string_len, name_len}
 use Rattle.ir_lex.specs.declared.bytes.Set.TheVariants.{Digits, WordBytes, MetaBytes}
 
-pub local_fit : (bs : List ℕ) → rest_fit (37 ∷ bs) ≡ better (fit kinds.Local (cond (nat_lt 0 (name_len bs)) (suc (name_len bs)) 0)) (fit kinds.Other 1)
+pub local_fit : (bs : List ℕ) → rest_fit (37 ∷ bs) ≡ better (fit forms.Local (cond (nat_lt 0 (name_len bs)) (suc (name_len bs)) 0)) (fit forms.Other 1)
 unfolding rest_fit number_len word_len meta_len dots_len other_len string_len has
 local_fit bs = grind (arith, common_steps)
 
-pub global_fit : (bs : List ℕ) → rest_fit (64 ∷ bs) ≡ better (fit kinds.Global (cond (nat_lt 0 (name_len bs)) (suc (name_len bs)) 0)) (fit kinds.Other 1)
+pub global_fit : (bs : List ℕ) → rest_fit (64 ∷ bs) ≡ better (fit forms.Global (cond (nat_lt 0 (name_len bs)) (suc (name_len bs)) 0)) (fit forms.Other 1)
 unfolding rest_fit number_len word_len meta_len dots_len other_len string_len has
 global_fit bs = grind (arith, common_steps)
 
-pub comdat_fit : (bs : List ℕ) → rest_fit (36 ∷ bs) ≡ better (fit kinds.Comdat (cond (nat_lt 0 (name_len bs)) (suc (name_len bs)) 0)) (fit kinds.Other 1)
+pub comdat_fit : (bs : List ℕ) → rest_fit (36 ∷ bs) ≡ better (fit forms.Comdat (cond (nat_lt 0 (name_len bs)) (suc (name_len bs)) 0)) (fit forms.Other 1)
 unfolding rest_fit number_len word_len meta_len dots_len other_len string_len has
 comdat_fit bs = grind (arith, common_steps)
 
-pub group_fit : (bs : List ℕ) → rest_fit (35 ∷ bs) ≡ better (fit kinds.Group (cond (nat_lt 0 (run Digits bs)) (suc (run Digits bs)) 0)) (fit kinds.Other 1)
+pub group_fit : (bs : List ℕ) → rest_fit (35 ∷ bs) ≡ better (fit forms.Group (cond (nat_lt 0 (run Digits bs)) (suc (run Digits bs)) 0)) (fit forms.Other 1)
 unfolding rest_fit number_len word_len meta_len dots_len other_len string_len has
 group_fit bs = grind (arith, common_steps)
 
-pub signed_fit : (bs : List ℕ) → rest_fit (45 ∷ bs) ≡ better (fit kinds.Number (cond (nat_lt 0 (run Digits bs)) (suc (run Digits bs)) 0)) (fit kinds.Other 1)
+pub signed_fit : (bs : List ℕ) → rest_fit (45 ∷ bs) ≡ better (fit forms.Number (cond (nat_lt 0 (run Digits bs)) (suc (run Digits bs)) 0)) (fit forms.Other 1)
 unfolding rest_fit number_len word_len meta_len dots_len other_len string_len has
 signed_fit bs = grind (arith, common_steps)
 
-pub meta_fit : (bs : List ℕ) → rest_fit (33 ∷ bs) ≡ fit kinds.Meta (suc (run MetaBytes bs))
+pub meta_fit : (bs : List ℕ) → rest_fit (33 ∷ bs) ≡ fit forms.Meta (suc (run MetaBytes bs))
 unfolding rest_fit number_len word_len meta_len dots_len other_len string_len has
 meta_fit bs = grind (arith, common_steps)
 
-pub string_fit : (bs : List ℕ) → rest_fit (34 ∷ bs) ≡ better (fit kinds.Number 0) (fit kinds.Str (string_len (34 ∷ bs)))
+pub string_fit : (bs : List ℕ) → rest_fit (34 ∷ bs) ≡ better (fit forms.Number 0) (fit forms.Str (string_len (34 ∷ bs)))
 unfolding rest_fit number_len word_len meta_len dots_len other_len has
 string_fit bs = grind (arith, common_steps)
 
-pub dots_fit : (bs : List ℕ) → rest_fit (46 ∷ bs) ≡ better (fit kinds.Dots (dots_len (46 ∷ bs))) (fit kinds.Other 1)
+pub dots_fit : (bs : List ℕ) → rest_fit (46 ∷ bs) ≡ better (fit forms.Dots (dots_len (46 ∷ bs))) (fit forms.Other 1)
 unfolding rest_fit number_len word_len meta_len other_len string_len has
 dots_fit bs = grind (arith, common_steps)
 
@@ -69,7 +69,7 @@ digit_plain c h i = record {
   e46 = neq_above c 46 (omega arith);
 }
 
-pub digit_fit : (c : ℕ) (bs : List ℕ) → is_ascii_digit c ≡ true → rest_fit (c ∷ bs) ≡ fit kinds.Number (suc (run Digits bs))
+pub digit_fit : (c : ℕ) (bs : List ℕ) → is_ascii_digit c ≡ true → rest_fit (c ∷ bs) ≡ fit forms.Number (suc (run Digits bs))
 unfolding rest_fit number_len word_len meta_len dots_len other_len string_len has
 digit_fit c bs h =
     let r = in_is_in_range 48 57 c h in
@@ -104,21 +104,21 @@ word_plain c h = (
     in_range : (c : ℕ) → starts_word c ≡ true → is_ascii_graphic c ≡ true
     in_range c h = grind arith
 
-pub word_fit : (c : ℕ) (bs : List ℕ) → starts_word c ≡ true → rest_fit (c ∷ bs) ≡ better (fit kinds.Word (suc (run WordBytes bs))) (fit kinds.CStr (behind 99 string_len (c ∷ bs)))
+pub word_fit : (c : ℕ) (bs : List ℕ) → starts_word c ≡ true → rest_fit (c ∷ bs) ≡ better (fit forms.Word (suc (run WordBytes bs))) (fit forms.CStr (behind 99 string_len (c ∷ bs)))
 unfolding rest_fit number_len word_len meta_len dots_len other_len string_len has
 word_fit c bs h =
     let q = word_plain c h in
     let p = q.0 in
     rw (h, q.1, p.e45, p.e37, p.e64, p.e36, p.e33, p.e35, p.e34, p.e46, q.2) (grind (arith, common_steps))
 
-pub other_fit : (c : ℕ) (bs : List ℕ) → Plain c → is_ascii_digit c ≡ false → starts_word c ≡ false → rest_fit (c ∷ bs) ≡ better (fit kinds.Number 0) (fit kinds.Other (cond (is_ascii_graphic c) 1 0))
+pub other_fit : (c : ℕ) (bs : List ℕ) → Plain c → is_ascii_digit c ≡ false → starts_word c ≡ false → rest_fit (c ∷ bs) ≡ better (fit forms.Number 0) (fit forms.Other (cond (is_ascii_graphic c) 1 0))
 unfolding rest_fit number_len word_len meta_len dots_len other_len string_len has
 other_fit c bs p d w = rw (d, w, p.e45, p.e37, p.e64, p.e36, p.e33, p.e35, p.e34, p.e46) (grind (arith, common_steps))
 
 -- ---- at what the code has
 
-pub arm : (k : Kind) (c : ℕ) (len : List ℕ → ℕ) (first n : ℕ) (rest bytes : List ℕ) (r : Fit) → ((bs : List ℕ) → rest_fit (c ∷ bs) ≡ better (fit k (cond (nat_lt 0 (len bs)) (suc (len bs)) 0)) (fit kinds.Other 1))
-    → bytes ≡ first ∷ rest → first ≡ c → n ≡ len rest → r ≡ better (fit k (cond (nat_lt 0 n) (n + 1) 0)) (fit kinds.Other 1) → r ≡ rest_fit bytes
+pub arm : (k : TokenForm) (c : ℕ) (len : List ℕ → ℕ) (first n : ℕ) (rest bytes : List ℕ) (r : Fit) → ((bs : List ℕ) → rest_fit (c ∷ bs) ≡ better (fit k (cond (nat_lt 0 (len bs)) (suc (len bs)) 0)) (fit forms.Other 1))
+    → bytes ≡ first ∷ rest → first ≡ c → n ≡ len rest → r ≡ better (fit k (cond (nat_lt 0 n) (n + 1) 0)) (fit forms.Other 1) → r ≡ rest_fit bytes
 arm k c len first n rest bytes r law whole is e h = rw (whole, is, law rest, ← e) (h ∙ rw add-one refl)
 
 pub arm_of : (c first : ℕ) (rest bytes : List ℕ) (r : Fit) → bytes ≡ first ∷ rest → first ≡ c → r ≡ rest_fit (c ∷ rest) → r ≡ rest_fit bytes

@@ -5,7 +5,7 @@ use Rattle.ir_lex.specs.Bytes.{has, run}
 use Rattle.ir_lex.specs.Pieces.{Piece, AllBlank, AreSpelled, bytes_of, ends_at, tokens_of}
 use Rattle.ir_lex.specs.declared.bytes.Set.{Set}
 use Rattle.ir_lex.specs.declared.bytes.Set.TheVariants.{Digits}
-use Rattle.ir_lex.specs.declared.token.Kind.TheVariants as kinds
+use Rattle.ir_lex.specs.declared.token.TokenForm.TheVariants as forms
 use Rattle.ir_lex.specs.Blanks.{Place, place, skip, pass, is_blank, ends_before, line_after, line_behind}
 use Rattle.ir_lex.specs.Lexing.{Lead, AreTokens}
 use Rattle.ir_lex.specs.Rows.{best_fit, fit, string_len, label_len, bare_len, name_len}
@@ -42,7 +42,7 @@ digits_named d ds rest a e =
     maxes a b c n e f g = omega (arith, e, f, g)
 
 -- %N, whatever follows that is no digit
-pub local_spelled : (d : ℕ) (ds rest : List ℕ) → AllIn Digits (d ∷ ds) → Ends Digits rest → best_fit (37 ∷ ((d ∷ ds) ++ rest)) ≡ fit kinds.Local (suc (suc (length ds)))
+pub local_spelled : (d : ℕ) (ds rest : List ℕ) → AllIn Digits (d ∷ ds) → Ends Digits rest → best_fit (37 ∷ ((d ∷ ds) ++ rest)) ≡ fit forms.Local (suc (suc (length ds)))
 unfolding best_fit label_len string_len has
 local_spelled d ds rest a e = rw (local_fit ((d ∷ ds) ++ rest), digits_named d ds rest a e) (grind (arith, common_steps))
 
@@ -79,7 +79,7 @@ spelled line (p ∷ ps) s =
         starts = skip_blank line p.blank p.first (p.others ++ bytes_of ps) s.0 s.1;
         good = s.3;
         fits = s.2;
-        head = refl;
+        kind = refl;
         line = refl;
         ends = sym (skip_pieces end ps s.4);
       },

@@ -1,7 +1,7 @@
 -- Each text has its tokens, or a first bad one.
 use Rattle.std.proofs.Common.{◌≡◌, ℕ, zero, suc, ◌-◌, ◌≤◌, ◌<◌, Bool, true, false, ◌||◌, nat_eq, List, [], ◌∷◌, ◌++◌, length, take, drop, refl, sym, ap, ◌∙◌, arith, ◌⊎◌, inl, inr, take-append-drop, length-take-le}
 use Rattle.std.proofs.lemmas.List.{length-drop}
-use Rattle.ir_lex.specs.Heads.{head_of}
+use Rattle.ir_lex.specs.TokenKinds.{kind_of}
 use Rattle.ir_lex.specs.Blanks.{Place, place, skip, line_behind, ends_before}
 use Rattle.ir_lex.specs.Lexing.{Lead, Next, Stands, AreTokens, AreTokensBefore, is_bad}
 use Rattle.ir_lex.specs.Rows.{best_fit}
@@ -34,14 +34,14 @@ next_at at line here e good =
     let whole : take f.len here ++ drop f.len here ≡ here = take-append-drop f.len here in
     let end : ℕ = line_behind line (take f.len here) in
     let after : Place = place end (drop f.len here) in
-    let t : Tok = record { kind = f.kind; text = take f.len here; line = line; head = head_of f.kind (take f.len here) (drop f.len here); ends_line = ends_before end (skip false end (drop f.len here)) } in (
+    let t : Tok = record { form = f.form; text = take f.len here; line = line; kind = kind_of f.form (take f.len here) (drop f.len here); ends_line = ends_before end (skip false end (drop f.len here)) } in (
       t,
       after,
       record {
         starts = e ∙ ap (λ (x : List ℕ). place line x) (sym whole);
         good = ap is_bad whole ∙ good;
-        fits = ap best_fit whole ∙ ap (λ (n : ℕ). record { kind = f.kind; len = n }) (sym (length-take-le f.len here (best_fit_le here)));
-        head = refl;
+        fits = ap best_fit whole ∙ ap (λ (n : ℕ). record { form = f.form; len = n }) (sym (length-take-le f.len here (best_fit_le here)));
+        kind = refl;
         line = refl;
         ends = refl;
       },

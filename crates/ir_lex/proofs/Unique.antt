@@ -1,8 +1,8 @@
 -- No text is two lists of tokens.
 use Rattle.std.proofs.Common.{◌≡◌, ℕ, true, false, List, [], ◌∷◌, ◌++◌, length, refl, sym, ap, subst, ◌∙◌, arith}
 use Rattle.ir_lex.specs.declared.rows.Fit.{Fit}
-use Rattle.ir_lex.specs.declared.token.Kind.{Kind}
-use Rattle.ir_lex.specs.Heads.{head_of}
+use Rattle.ir_lex.specs.declared.token.TokenForm.{TokenForm}
+use Rattle.ir_lex.specs.TokenKinds.{kind_of}
 use Rattle.ir_lex.specs.Tok.{Tok}
 use Rattle.ir_lex.specs.Blanks.{Place, place, skip, line_behind, ends_before}
 use Rattle.ir_lex.specs.Lexing.{Lead, Next, is_bad, AreTokens, AreTokensBefore}
@@ -18,8 +18,8 @@ cut_is {T} (t ∷ a) b (u ∷ c) d e l =
     let i = cut_is a b c d r (omega arith) in
     (ap (λ (x : List T). t ∷ x) i.0 ∙ ap (λ (x : T). x ∷ c) h, i.1)
 
-tok_is : (t u : Tok) → t.kind ≡ u.kind → t.text ≡ u.text → t.line ≡ u.line → t.head ≡ u.head → t.ends_line ≡ u.ends_line → t ≡ u
-tok_is t u k x l h e = λ i. record { kind = k i; text = x i; line = l i; head = h i; ends_line = e i }
+tok_is : (t u : Tok) → t.form ≡ u.form → t.text ≡ u.text → t.line ≡ u.line → t.kind ≡ u.kind → t.ends_line ≡ u.ends_line → t ≡ u
+tok_is t u k x l h e = λ i. record { form = k i; text = x i; line = l i; kind = h i; ends_line = e i }
 
 place_is : (p q : Place) → p.line ≡ q.line → p.bytes ≡ q.bytes → p ≡ q
 place_is p q l b = λ i. record { line = l i; bytes = b i }
@@ -33,8 +33,8 @@ next_once at after after' t u n m =
     let cut = cut_is t.text after.bytes u.text after'.bytes whole (ap (λ (f : Fit). f.len) fits) in
     let behind : after ≡ after' = place_is after after' (n.line ∙ ap (λ (x : ℕ). line_behind x t.text) lines ∙ ap (λ (x : List ℕ). line_behind u.line x) cut.0 ∙ sym m.line) cut.1 in
     let ends = n.ends ∙ ap (λ (p : Place). ends_before p.line (skip false p.line p.bytes)) behind ∙ sym m.ends in
-    let kinds : t.kind ≡ u.kind = ap (λ (f : Fit). f.kind) fits in
-    let heads : t.head ≡ u.head = n.head ∙ ap (λ (k : Kind). head_of k t.text after.bytes) kinds ∙ ap (λ (x : List ℕ). head_of u.kind x after.bytes) cut.0 ∙ ap (λ (x : List ℕ). head_of u.kind u.text x) cut.1 ∙ sym m.head in
+    let kinds : t.form ≡ u.form = ap (λ (f : Fit). f.form) fits in
+    let heads : t.kind ≡ u.kind = n.kind ∙ ap (λ (k : TokenForm). kind_of k t.text after.bytes) kinds ∙ ap (λ (x : List ℕ). kind_of u.form x after.bytes) cut.0 ∙ ap (λ (x : List ℕ). kind_of u.form u.text x) cut.1 ∙ sym m.kind in
     (tok_is t u kinds cut.0 lines heads ends, behind)
 
 -- where a token stands, none is bad

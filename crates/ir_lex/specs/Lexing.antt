@@ -5,7 +5,7 @@ use Rattle.ir_lex.specs.declared.lexer.LexError.{LexError}
 use Rattle.ir_lex.specs.declared.lexer.LexError.TheVariants as errors
 use Rattle.ir_lex.specs.declared.token.Token.{Token}
 use Rattle.ir_lex.specs.Blanks.{Place, place, skip, line_behind, ends_before}
-use Rattle.ir_lex.specs.Heads.{head_of}
+use Rattle.ir_lex.specs.TokenKinds.{kind_of}
 use Rattle.ir_lex.specs.Quotes.{is_zero_name}
 use Rattle.ir_lex.specs.Rows.{begins, best_fit, string_len}
 use Rattle.ir_lex.specs.Tok.{Tok, toks}
@@ -27,14 +27,14 @@ opens (b ∷ bs) = is_sigil b && is_open bs
 
 -- no token stands here: a byte that begins none, a string that isn't closed, or a name that holds a zero byte
 unfoldable pub is_bad : List ℕ → Bool
-is_bad bs = nat_eq (best_fit bs).len 0 || (opens bs || is_zero_name (best_fit bs).kind (take (best_fit bs).len bs))
+is_bad bs = nat_eq (best_fit bs).len 0 || (opens bs || is_zero_name (best_fit bs).form (take (best_fit bs).len bs))
 
 -- the next token at a place, and the place behind it
 pub record Next (at : Place) (t : Tok) (after : Place) : Type 0 where
   pub starts : skip false at.line at.bytes ≡ place t.line (t.text ++ after.bytes)
   pub good : is_bad (t.text ++ after.bytes) ≡ false
-  pub fits : best_fit (t.text ++ after.bytes) ≡ record { kind = t.kind; len = length t.text }
-  pub head : t.head ≡ head_of t.kind t.text after.bytes
+  pub fits : best_fit (t.text ++ after.bytes) ≡ record { form = t.form; len = length t.text }
+  pub kind : t.kind ≡ kind_of t.form t.text after.bytes
   pub line : after.line ≡ line_behind t.line t.text
   pub ends : t.ends_line ≡ ends_before after.line (skip false after.line after.bytes)
 

@@ -1,6 +1,6 @@
 pub mod Blanks
 pub mod Bytes
-pub mod Heads
+pub mod TokenKinds
 pub mod Lexing
 pub mod Order
 pub mod Pieces

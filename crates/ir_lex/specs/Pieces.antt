@@ -1,7 +1,7 @@
 -- Text that is written as tokens with blanks between, and what it is read as.
 use Rattle.std.specs.Prelude.{◌≡◌, ℕ, suc, Bool, true, false, nat_lt, None, List, [], ◌∷◌, ◌++◌, length}
-use Rattle.ir_lex.specs.declared.token.Kind.{Kind}
-use Rattle.ir_lex.specs.Heads.{head_of}
+use Rattle.ir_lex.specs.declared.token.TokenForm.{TokenForm}
+use Rattle.ir_lex.specs.TokenKinds.{kind_of}
 use Rattle.ir_lex.specs.Blanks.{is_blank, line_behind, pass}
 use Rattle.ir_lex.specs.Lexing.{is_bad}
 use Rattle.ir_lex.specs.Rows.{best_fit, fit}
@@ -10,7 +10,7 @@ use Rattle.ir_lex.specs.Tok.{Tok}
 -- a token, and the blank before it
 pub record Piece : Type 0 where
   pub blank : List ℕ
-  pub kind : Kind
+  pub form : TokenForm
   pub first : ℕ
   pub others : List ℕ
 
@@ -26,7 +26,7 @@ AllBlank (b ∷ bs) = (is_blank b ≡ true) × AllBlank bs
 abbrev pub AreSpelled : List Piece → Type 0
 AreSpelled [] = Unit {0}
 AreSpelled (p ∷ ps) =
-    AllBlank p.blank × (pass false p.first ≡ None) × (best_fit (p.first ∷ p.others ++ bytes_of ps) ≡ fit p.kind (suc (length p.others)))
+    AllBlank p.blank × (pass false p.first ≡ None) × (best_fit (p.first ∷ p.others ++ bytes_of ps) ≡ fit p.form (suc (length p.others)))
     × (is_bad (p.first ∷ p.others ++ bytes_of ps) ≡ false) × AreSpelled ps
 
 -- whether the line ends between a token that ends on it and these
@@ -39,10 +39,10 @@ abbrev pub tokens_of : ℕ → List Piece → List Tok
 tokens_of line [] = []
 tokens_of line (p ∷ ps) =
     record {
-      kind = p.kind;
+      form = p.form;
       text = p.first ∷ p.others;
       line = line_behind line p.blank;
-      head = head_of p.kind (p.first ∷ p.others) (bytes_of ps);
+      kind = kind_of p.form (p.first ∷ p.others) (bytes_of ps);
       ends_line = ends_at (line_behind (line_behind line p.blank) (p.first ∷ p.others)) ps;
     }
     ∷ tokens_of (line_behind (line_behind line p.blank) (p.first ∷ p.others)) ps

@@ -1,8 +1,8 @@
 -- What quoted text stands for: `\\` is a backslash, a backslash and two hexadecimal digits are that byte, any other
 -- backslash is itself.
 use Rattle.std.specs.Prelude.{◌≡◌, ℕ, zero, suc, ◌+◌, ◌-◌, ◌*◌, Bool, true, false, ◌&&◌, ◌||◌, nat_eq, if◌then◌else◌, Option, Some, None, List, [], ◌∷◌, take, drop, length}
-use Rattle.ir_lex.specs.declared.token.Kind.{Kind}
-use Rattle.ir_lex.specs.declared.token.Kind.TheVariants as kinds
+use Rattle.ir_lex.specs.declared.token.TokenForm.{TokenForm}
+use Rattle.ir_lex.specs.declared.token.TokenForm.TheVariants as forms
 use Rattle.ir_lex.specs.declared.quotes.Escape.{Escape}
 use Rattle.std.specs.Char.{digit_value, is_digit}
 
@@ -36,50 +36,50 @@ inside (b ∷ []) = None
 inside (b ∷ c ∷ bs) = if nat_eq b 34 then Some (take (length bs) (c ∷ bs)) else None
 
 -- a token's text without its sigil, its `c` or its colon
-abbrev pub stripped : Kind → List ℕ → List ℕ
-stripped kinds.Label text = take (length text - 1) text
-stripped kinds.Number text = text
-stripped kinds.Word text = text
-stripped kinds.Local text = drop 1 text
-stripped kinds.Global text = drop 1 text
-stripped kinds.Comdat text = drop 1 text
-stripped kinds.Meta text = text
-stripped kinds.Group text = text
-stripped kinds.Str text = text
-stripped kinds.CStr text = drop 1 text
-stripped kinds.Dots text = text
-stripped kinds.Other text = text
+abbrev pub stripped : TokenForm → List ℕ → List ℕ
+stripped forms.Label text = take (length text - 1) text
+stripped forms.Number text = text
+stripped forms.Word text = text
+stripped forms.Local text = drop 1 text
+stripped forms.Global text = drop 1 text
+stripped forms.Comdat text = drop 1 text
+stripped forms.Meta text = text
+stripped forms.Group text = text
+stripped forms.Str text = text
+stripped forms.CStr text = drop 1 text
+stripped forms.Dots text = text
+stripped forms.Other text = text
 
 -- what a token's text stands for: the name of a name, the bytes of a string
-unfoldable pub content : Kind → List ℕ → List ℕ
-content kind text = elim (inside (stripped kind text)) as (λ o. List ℕ) [ None ↦ stripped kind text | Some quoted ↦ unescaped quoted ]
+unfoldable pub content : TokenForm → List ℕ → List ℕ
+content form text = elim (inside (stripped form text)) as (λ o. List ℕ) [ None ↦ stripped form text | Some quoted ↦ unescaped quoted ]
 
-abbrev pub is_name : Kind → Bool
-is_name kinds.Label = true
-is_name kinds.Number = false
-is_name kinds.Word = false
-is_name kinds.Local = true
-is_name kinds.Global = true
-is_name kinds.Comdat = true
-is_name kinds.Meta = false
-is_name kinds.Group = false
-is_name kinds.Str = false
-is_name kinds.CStr = false
-is_name kinds.Dots = false
-is_name kinds.Other = false
+abbrev pub is_name : TokenForm → Bool
+is_name forms.Label = true
+is_name forms.Number = false
+is_name forms.Word = false
+is_name forms.Local = true
+is_name forms.Global = true
+is_name forms.Comdat = true
+is_name forms.Meta = false
+is_name forms.Group = false
+is_name forms.Str = false
+is_name forms.CStr = false
+is_name forms.Dots = false
+is_name forms.Other = false
 
 abbrev pub has_zero : List ℕ → Bool
 has_zero [] = false
 has_zero (b ∷ bs) = nat_eq b 0 || has_zero bs
 
 -- a name that holds a zero byte; a bare one has none
-unfoldable pub is_zero_name : Kind → List ℕ → Bool
-is_zero_name kind text = is_name kind && elim (inside (stripped kind text)) as (λ o. Bool) [ None ↦ false | Some quoted ↦ has_zero (unescaped quoted) ]
+unfoldable pub is_zero_name : TokenForm → List ℕ → Bool
+is_zero_name form text = is_name form && elim (inside (stripped form text)) as (λ o. Bool) [ None ↦ false | Some quoted ↦ has_zero (unescaped quoted) ]
 
 abbrev pub has_backslash : List ℕ → Bool
 has_backslash [] = false
 has_backslash (b ∷ bs) = nat_eq b 92 || has_backslash bs
 
 -- what it stands for stands in the text itself
-unfoldable pub is_plain : Kind → List ℕ → Type 0
-is_plain kind text = elim (inside (stripped kind text)) as (λ o. Type 0) [ None ↦ Unit {0} | Some quoted ↦ has_backslash quoted ≡ false ]
+unfoldable pub is_plain : TokenForm → List ℕ → Type 0
+is_plain form text = elim (inside (stripped form text)) as (λ o. Type 0) [ None ↦ Unit {0} | Some quoted ↦ has_backslash quoted ≡ false ]

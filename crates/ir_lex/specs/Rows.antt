@@ -1,7 +1,7 @@
 -- The rows of the table of tokens: at each place the longest that fits counts, and of equals the first.
 use Rattle.std.specs.Prelude.{◌≡◌, ℕ, zero, suc, max, Bool, false, ◌&&◌, not, nat_eq, nat_lt, if◌then◌else◌, List, [], ◌∷◌, drop}
-use Rattle.ir_lex.specs.declared.token.Kind.{Kind}
-use Rattle.ir_lex.specs.declared.token.Kind.TheVariants as kinds
+use Rattle.ir_lex.specs.declared.token.TokenForm.{TokenForm}
+use Rattle.ir_lex.specs.declared.token.TokenForm.TheVariants as forms
 use Rattle.ir_lex.specs.declared.bytes.Set.TheVariants.{Digits, LabelBytes, WordBytes, MetaBytes, Inside}
 use Rattle.ir_lex.specs.declared.rows.Fit.{Fit}
 use Rattle.std.specs.Char.{is_ascii_graphic}
@@ -63,8 +63,8 @@ unfoldable pub other_len : List ℕ → ℕ
 other_len [] = 0
 other_len (b ∷ bs) = if is_ascii_graphic b && not (nat_eq b 34) then 1 else 0
 
-abbrev pub fit : Kind → ℕ → Fit
-fit kind len = record { kind = kind; len = len }
+abbrev pub fit : TokenForm → ℕ → Fit
+fit form len = record { form = form; len = len }
 
 -- the longer of two, and of two alike the first
 abbrev pub better : Fit → Fit → Fit
@@ -76,21 +76,21 @@ longest f (g ∷ gs) = better f (longest g gs)
 
 -- the rows but the first
 unfoldable pub rest_fit : List ℕ → Fit
-rest_fit bs = longest (fit kinds.Number (number_len bs))
-    (fit kinds.Word (word_len bs)
-    ∷ fit kinds.Local (behind 37 name_len bs)
-    ∷ fit kinds.Global (behind 64 name_len bs)
-    ∷ fit kinds.Comdat (behind 36 name_len bs)
-    ∷ fit kinds.Meta (meta_len bs)
-    ∷ fit kinds.Group (behind 35 (run Digits) bs)
-    ∷ fit kinds.Str (string_len bs)
-    ∷ fit kinds.CStr (behind 99 string_len bs)
-    ∷ fit kinds.Dots (dots_len bs)
-    ∷ fit kinds.Other (other_len bs)
+rest_fit bs = longest (fit forms.Number (number_len bs))
+    (fit forms.Word (word_len bs)
+    ∷ fit forms.Local (behind 37 name_len bs)
+    ∷ fit forms.Global (behind 64 name_len bs)
+    ∷ fit forms.Comdat (behind 36 name_len bs)
+    ∷ fit forms.Meta (meta_len bs)
+    ∷ fit forms.Group (behind 35 (run Digits) bs)
+    ∷ fit forms.Str (string_len bs)
+    ∷ fit forms.CStr (behind 99 string_len bs)
+    ∷ fit forms.Dots (dots_len bs)
+    ∷ fit forms.Other (other_len bs)
     ∷ [])
 
 unfoldable pub best_fit : List ℕ → Fit
-best_fit bs = better (fit kinds.Label (label_len bs)) (rest_fit bs)
+best_fit bs = better (fit forms.Label (label_len bs)) (rest_fit bs)
 
 -- a byte that begins no row but those of digits, words and other bytes
 pub record Plain (c : ℕ) : Type 0 where

@@ -7,10 +7,10 @@ ghost use Rattle.ir_lex.specs.Lexing.{AreTokens, AreTokensBefore, IsLexed, IsTok
 ghost use Rattle.ir_lex.specs.declared.lexer.LexError.TheVariants.{NoMemory};
 
 use crate::blanks::{gap_behind, skip};
-use crate::head::head_of;
 use crate::quotes::is_zero_name;
 use crate::rows::{Fit, best_fit, label_at, string_len};
 use crate::token::Token;
+use crate::token_kind::kind_of;
 use std::alloc::{AllocError, AllocFailed, Global};
 
 // About as many bytes as a token of such text takes with the blanks behind it.
@@ -83,7 +83,7 @@ fn token_at(label: usize, first: u8, rest: &[u8], bytes: &[u8]) -> Option<Fit>
         return None;
     }
     let (text, _after) = bytes.split_at(fit.len);
-    if is_zero_name(fit.kind, text) {
+    if is_zero_name(fit.form, text) {
         None
     } else {
         Some(fit)
@@ -119,12 +119,12 @@ pub fn lex<'a>(alloc: Global, bytes: &'a [u8]) -> Result<Lexed<'a>, AllocError>
         let (text, behind) = rest.split_at(fit.len);
         let gap = gap_behind(line, text, behind);
         let (_blank, next) = behind.split_at(gap.at);
-        let head = head_of(fit.kind, text, behind);
+        let kind = kind_of(fit.form, text, behind);
         tokens.push(Token {
             text,
             line,
-            kind: fit.kind,
-            head,
+            form: fit.form,
+            kind,
             ends_line: gap.ends_line,
         })?;
         rest = next;

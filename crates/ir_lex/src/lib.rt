@@ -2,8 +2,8 @@
 //!
 //! Nothing stands below this crate but the standard library. A token is the longest that fits a row of the table in
 //! `specs/Rows`, and of equals the first row's; blanks and comments stand between. The code goes by the first byte and
-//! never sees that table. Beside its kind a token has a class ([`Head`], `specs/Heads`), by which readers choose, and
-//! says whether its line ends behind it. [`lex`] gives also what stands before a bad token, [`tokens`] all tokens or
+//! never sees that table. Beside its form a token has a kind ([`TokenKind`], `specs/TokenKinds`), by which readers choose,
+//! and says whether its line ends behind it. [`lex`] gives also what stands before a bad token, [`tokens`] all tokens or
 //! the line of the bad one.
 //!
 //! **Promise.** [`tokens`] gives the one list of tokens that a text has, each with its slice of the text and the line
@@ -20,16 +20,16 @@
 
 mod blanks;
 mod bytes;
-mod head;
 mod laws;
 mod lexer;
 mod names;
 mod quotes;
 mod rows;
 mod token;
+mod token_kind;
 mod words;
 
-pub use head::Head;
 pub use laws::{every_text, one_list, slices, written};
 pub use lexer::{LexError, Lexed, lex, tokens};
-pub use token::{Kind, Token};
+pub use token::{Token, TokenForm};
+pub use token_kind::TokenKind;

@@ -3,16 +3,16 @@
 ghost use Rattle.std.specs.Prelude.{◌≡◌, ◌<◌, ◌≤◌, ◌^◌, length, false};
 ghost use Rattle.std.specs.Str.{bytes_eq};
 ghost use Rattle.ir_lex.specs.Blanks.{skip};
-ghost use Rattle.ir_lex.specs.Heads.{begins_with, name_head, is_numbered, is_local_linkage, gives_local, defines_local, global_head};
+ghost use Rattle.ir_lex.specs.TokenKinds.{begins_with, name_kind, is_numbered, is_local_linkage, gives_local, defines_local, global_kind};
 ghost use Rattle.ir_lex.specs.Quotes.{unescaped};
-ghost use Rattle.ir_lex.specs.declared.token.Kind.TheVariants as kinds;
+ghost use Rattle.ir_lex.specs.declared.token.TokenForm.TheVariants as forms;
 
 use crate::blanks::skip;
 use crate::bytes::{Set, run};
-use crate::head::Head;
 use crate::quotes::{inside, spelled_at, stripped};
 use crate::rows::label_len;
-use crate::token::Kind;
+use crate::token::TokenForm;
+use crate::token_kind::TokenKind;
 
 /// Whether the bytes begin with these.
 fn begins_with(start: &[u8], bytes: &[u8]) -> bool
@@ -84,35 +84,35 @@ fn is_spelled(name: &[u8], quoted: &[u8]) -> bool
     }
 }
 
-/// The class of a name without quotes.
-#[tactic(auto, unfolding(crate::specs::Heads::name_head))]
-fn bare_head(name: &[u8]) -> Head
-    ensures { result ≡ name_head name.now }
+/// The kind of a name without quotes.
+#[tactic(auto, unfolding(crate::specs::TokenKinds::name_kind))]
+fn bare_kind(name: &[u8]) -> TokenKind
+    ensures { result ≡ name_kind name.now }
 {
     if name == b"llvm.lifetime.start.p0".as_slice() || name == b"llvm.lifetime.end.p0".as_slice() {
-        Head::LifetimeMarker
+        TokenKind::LifetimeMarker
     } else if name == b"llvm".as_slice() || begins_with(b"llvm.".as_slice(), name) {
-        Head::ReservedGlobal
+        TokenKind::ReservedGlobal
     } else {
-        Head::Global
+        TokenKind::Global
     }
 }
 
-/// The class of a name in quotes.
-#[tactic(auto, unfolding(crate::specs::Heads::name_head))]
-fn quoted_head(quoted: &[u8]) -> Head
-    ensures { result ≡ name_head (unescaped quoted.now) }
+/// The kind of a name in quotes.
+#[tactic(auto, unfolding(crate::specs::TokenKinds::name_kind))]
+fn quoted_kind(quoted: &[u8]) -> TokenKind
+    ensures { result ≡ name_kind (unescaped quoted.now) }
 {
     if is_spelled(b"llvm.lifetime.start.p0".as_slice(), quoted)
         || is_spelled(b"llvm.lifetime.end.p0".as_slice(), quoted)
     {
-        Head::LifetimeMarker
+        TokenKind::LifetimeMarker
     } else if is_spelled(b"llvm".as_slice(), quoted)
         || begins_spelled(b"llvm.".as_slice(), quoted)
     {
-        Head::ReservedGlobal
+        TokenKind::ReservedGlobal
     } else {
-        Head::Global
+        TokenKind::Global
     }
 }
 
@@ -123,7 +123,7 @@ fn is_numbered(digits: &[u8]) -> bool
 }
 
 /// Whether `private` or `internal` stands here, and no label.
-#[tactic(auto, unfolding(crate::specs::Heads::is_local_linkage))]
+#[tactic(auto, unfolding(crate::specs::TokenKinds::is_local_linkage))]
 fn is_local_linkage(bytes: &[u8]) -> bool
     ensures { result ≡ is_local_linkage bytes.now }
 {
@@ -156,22 +156,22 @@ fn defines_local(bytes: &[u8]) -> bool
     }
 }
 
-/// The class of a global, by what its text stands for.
-#[tactic(auto, unfolding(crate::specs::Heads::global_head, crate::specs::Quotes::content))]
-pub fn global_head(text: &[u8], behind: &[u8]) -> Head
+/// The kind of a global, by what its text stands for.
+#[tactic(auto, unfolding(crate::specs::TokenKinds::global_kind, crate::specs::Quotes::content))]
+pub fn global_kind(text: &[u8], behind: &[u8]) -> TokenKind
     requires { length behind.now < 2 ^ 32 }
-    ensures { result ≡ global_head text.now behind.now }
+    ensures { result ≡ global_kind text.now behind.now }
 {
-    let bare = stripped(Kind::Global, text);
+    let bare = stripped(TokenForm::Global, text);
     if is_numbered(bare) {
         return if defines_local(behind) {
-            Head::NumberedDefinition
+            TokenKind::NumberedDefinition
         } else {
-            Head::NumberedGlobal
+            TokenKind::NumberedGlobal
         };
     }
     match inside(bare) {
-        None => bare_head(bare),
-        Some(quoted) => quoted_head(quoted),
+        None => bare_kind(bare),
+        Some(quoted) => quoted_kind(quoted),
     }
 }

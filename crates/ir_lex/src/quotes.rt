@@ -5,7 +5,7 @@ ghost use Rattle.std.specs.Char.{digit_value, is_digit};
 ghost use Rattle.std.specs.Cow.{cow_slice_items, IsBorrowedSlice};
 ghost use Rattle.ir_lex.specs.Quotes.{spells, escaped, spelled_at, unescaped, inside, stripped, content, is_name, is_plain, is_zero_name, has_zero, has_backslash};
 
-use crate::token::{Kind, Token};
+use crate::token::{Token, TokenForm};
 use std::alloc::{AllocError, Global};
 use std::borrow::CowSlice;
 
@@ -121,53 +121,53 @@ pub fn inside<'a>(text: &'a [u8]) -> Option<&'a [u8]>
 }
 
 /// A token's text without its sigil, its `c` or its colon.
-pub fn stripped<'a>(kind: Kind, text: &'a [u8]) -> &'a [u8]
-    ensures { result.now ≡ stripped kind text.now }
+pub fn stripped<'a>(form: TokenForm, text: &'a [u8]) -> &'a [u8]
+    ensures { result.now ≡ stripped form text.now }
 {
-    match kind {
-        Kind::Label => match text {
+    match form {
+        TokenForm::Label => match text {
             [all @ .., _colon] => all,
             _ => text,
         },
-        Kind::Local | Kind::Global | Kind::Comdat | Kind::CStr => match text {
+        TokenForm::Local | TokenForm::Global | TokenForm::Comdat | TokenForm::CStr => match text {
             [_sigil, all @ ..] => all,
             _ => text,
         },
-        Kind::Number
-        | Kind::Word
-        | Kind::Meta
-        | Kind::Group
-        | Kind::Str
-        | Kind::Dots
-        | Kind::Other => text,
+        TokenForm::Number
+        | TokenForm::Word
+        | TokenForm::Meta
+        | TokenForm::Group
+        | TokenForm::Str
+        | TokenForm::Dots
+        | TokenForm::Other => text,
     }
 }
 
-fn is_name(kind: Kind) -> bool
-    ensures { result ≡ is_name kind }
+fn is_name(form: TokenForm) -> bool
+    ensures { result ≡ is_name form }
 {
-    match kind {
-        Kind::Label | Kind::Local | Kind::Global | Kind::Comdat => true,
-        Kind::Number
-        | Kind::Word
-        | Kind::Meta
-        | Kind::Group
-        | Kind::Str
-        | Kind::CStr
-        | Kind::Dots
-        | Kind::Other => false,
+    match form {
+        TokenForm::Label | TokenForm::Local | TokenForm::Global | TokenForm::Comdat => true,
+        TokenForm::Number
+        | TokenForm::Word
+        | TokenForm::Meta
+        | TokenForm::Group
+        | TokenForm::Str
+        | TokenForm::CStr
+        | TokenForm::Dots
+        | TokenForm::Other => false,
     }
 }
 
 /// Whether this is a name that holds a zero byte.
 #[tactic(auto, unfolding(crate::specs::Quotes::is_zero_name))]
-pub fn is_zero_name(kind: Kind, text: &[u8]) -> bool
-    ensures { result ≡ is_zero_name kind text.now }
+pub fn is_zero_name(form: TokenForm, text: &[u8]) -> bool
+    ensures { result ≡ is_zero_name form text.now }
 {
-    if !is_name(kind) {
+    if !is_name(form) {
         return false;
     }
-    match inside(stripped(kind, text)) {
+    match inside(stripped(form, text)) {
         None => false,
         Some(quoted) => hides_zero(quoted),
     }
@@ -177,9 +177,9 @@ impl<'a> Token<'a> {
     /// The text without its sigil, its `c` or its colon; quotes and escapes stand in it as they are
     /// written.
     pub fn bare(&self) -> &'a [u8]
-        ensures { result.now ≡ stripped self.now.kind self.now.text.now }
+        ensures { result.now ≡ stripped self.now.form self.now.text.now }
     {
-        stripped(self.kind, self.text)
+        stripped(self.form, self.text)
     }
 
     /// What the token stands for: the name of a `Label`, `Local`, `Global` or `Comdat`, without
@@ -189,11 +189,11 @@ impl<'a> Token<'a> {
     /// any other backslash is itself. Text that has no backslash is borrowed.
     #[tactic(auto, unfolding(crate::specs::Quotes::content, crate::specs::Quotes::is_plain))]
     pub fn content(&self, alloc: Global) -> Result<CowSlice<'a, u8, Global>, AllocError>
-        ensures value { IfOk result (λ c. cow_slice_items c ≡ content self.now.kind self.now.text.now) }
+        ensures value { IfOk result (λ c. cow_slice_items c ≡ content self.now.form self.now.text.now) }
         // Without a backslash in quotes no memory is needed.
-        ensures borrows { is_plain self.now.kind self.now.text.now → IsOkAnd result IsBorrowedSlice }
+        ensures borrows { is_plain self.now.form self.now.text.now → IsOkAnd result IsBorrowedSlice }
     {
-        let bare = stripped(self.kind, self.text);
+        let bare = stripped(self.form, self.text);
         match inside(bare) {
             None => Ok(CowSlice::Borrowed(bare)),
             Some(quoted) => {

@@ -3,15 +3,15 @@
 ghost use Rattle.std.specs.Prelude.{◌≡◌, ◌+◌, ◌≤◌, ◌∷◌, ◌<◌, ◌^◌, nat_lt, if◌then◌else◌, length};
 ghost use Rattle.ir_lex.specs.Rows.{string_len, bare_len, name_len, before_colon, label_len, fit, better, rest_fit, best_fit, dots_len, behind, LabelFree, Plain};
 ghost use Rattle.ir_lex.specs.Rows as spec;
-ghost use Rattle.ir_lex.specs.declared.token.Kind.TheVariants as kinds;
+ghost use Rattle.ir_lex.specs.declared.token.TokenForm.TheVariants as forms;
 
 use crate::bytes::{Set, run, starts_name, starts_word};
-use crate::token::Kind;
+use crate::token::TokenForm;
 
 /// A row of the table of tokens, and how many bytes it takes.
 #[derive(Clone, Copy)]
 pub struct Fit {
-    pub kind: Kind,
+    pub form: TokenForm,
     pub len: usize,
 }
 
@@ -125,15 +125,15 @@ pub fn label_at(free: usize, bytes: &[u8]) -> Labels
 }
 
 /// One byte, and behind it what takes so many bytes; the byte alone where that is nothing.
-fn behind(kind: Kind, len: usize) -> Fit
+fn behind(form: TokenForm, len: usize) -> Fit
     requires { len < 2 ^ 63 }
-    ensures { result ≡ better (fit kind (if nat_lt 0 len then len + 1 else 0)) (fit kinds.Other 1) }
+    ensures { result ≡ better (fit form (if nat_lt 0 len then len + 1 else 0)) (fit forms.Other 1) }
 {
     if len > 0 {
-        Fit { kind, len: len + 1 }
+        Fit { form, len: len + 1 }
     } else {
         Fit {
-            kind: Kind::Other,
+            form: TokenForm::Other,
             len: 1,
         }
     }
@@ -186,17 +186,17 @@ fn plain(first: u8, rest: &[u8], bytes: &[u8]) -> Fit
 {
     if first.is_ascii_digit() {
         Fit {
-            kind: Kind::Number,
+            form: TokenForm::Number,
             len: run(Set::Digits, rest) + 1,
         }
     } else if starts_word(first) {
         better(
             Fit {
-                kind: Kind::Word,
+                form: TokenForm::Word,
                 len: run(Set::WordBytes, rest) + 1,
             },
             Fit {
-                kind: Kind::CStr,
+                form: TokenForm::CStr,
                 len: behind_len(b'c', bytes),
             },
         )
@@ -204,11 +204,11 @@ fn plain(first: u8, rest: &[u8], bytes: &[u8]) -> Fit
         let len = one_if(first.is_ascii_graphic());
         better(
             Fit {
-                kind: Kind::Number,
+                form: TokenForm::Number,
                 len: 0,
             },
             Fit {
-                kind: Kind::Other,
+                form: TokenForm::Other,
                 len,
             },
         )
@@ -221,32 +221,32 @@ fn unlabelled(first: u8, rest: &[u8], bytes: &[u8]) -> Fit
     ensures { result ≡ rest_fit bytes.now }
 {
     match first {
-        b'%' => behind(Kind::Local, name_len(rest)),
-        b'@' => behind(Kind::Global, name_len(rest)),
-        b'$' => behind(Kind::Comdat, name_len(rest)),
-        b'#' => behind(Kind::Group, run(Set::Digits, rest)),
-        b'-' => behind(Kind::Number, run(Set::Digits, rest)),
+        b'%' => behind(TokenForm::Local, name_len(rest)),
+        b'@' => behind(TokenForm::Global, name_len(rest)),
+        b'$' => behind(TokenForm::Comdat, name_len(rest)),
+        b'#' => behind(TokenForm::Group, run(Set::Digits, rest)),
+        b'-' => behind(TokenForm::Number, run(Set::Digits, rest)),
         b'!' => Fit {
-            kind: Kind::Meta,
+            form: TokenForm::Meta,
             len: run(Set::MetaBytes, rest) + 1,
         },
         b'"' => better(
             Fit {
-                kind: Kind::Number,
+                form: TokenForm::Number,
                 len: 0,
             },
             Fit {
-                kind: Kind::Str,
+                form: TokenForm::Str,
                 len: string_len(bytes),
             },
         ),
         b'.' => better(
             Fit {
-                kind: Kind::Dots,
+                form: TokenForm::Dots,
                 len: dots_len(bytes),
             },
             Fit {
-                kind: Kind::Other,
+                form: TokenForm::Other,
                 len: 1,
             },
         ),
@@ -263,7 +263,7 @@ pub fn best_fit(label_len: usize, first: u8, rest: &[u8], bytes: &[u8]) -> Fit
     ensures { result ≡ best_fit bytes.now }
 {
     let label = Fit {
-        kind: Kind::Label,
+        form: TokenForm::Label,
         len: label_len,
     };
     better(label, unlabelled(first, rest, bytes))

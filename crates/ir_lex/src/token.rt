@@ -1,10 +1,10 @@
-//! Tokens and their kinds.
+//! Tokens and their forms.
 
-use crate::head::Head;
+use crate::token_kind::TokenKind;
 
-/// What a token is. LLVM's own lexer has the same classes; each keyword is a `Word` here.
+/// How a token is written. LLVM's own lexer tells the same forms apart; each keyword is a `Word` here.
 #[derive(Clone, Copy, Debug, PartialEq, Eq)]
-pub enum Kind {
+pub enum TokenForm {
     /// A block's label, with its colon: `entry:`, `7:`, `"a b":`.
     Label,
     /// A decimal integer with or without a minus sign: `-12`.
@@ -31,15 +31,15 @@ pub enum Kind {
     Other,
 }
 
-/// A token: its kind, the slice of the text that it is, and where it stands in its line.
+/// A token: its form, the slice of the text that it is, and where it stands in its line.
 #[derive(Clone, Copy)]
 pub struct Token<'a> {
     pub text: &'a [u8],
     /// The line of its first byte, counted from 1.
     pub line: u32,
-    pub kind: Kind,
-    /// Its class, by which a reader chooses.
-    pub head: Head,
+    pub form: TokenForm,
+    /// Its kind, by which a reader chooses (LLVM's `lltok`).
+    pub kind: TokenKind,
     /// Whether its line, or the text, ends between it and the next token.
     pub ends_line: bool,
 }

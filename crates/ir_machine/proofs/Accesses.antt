@@ -7,8 +7,8 @@ use Rattle.ir_meaning.specs.Access.{access_cause, load_from, reaches, refusal_in
 use Rattle.ir_meaning.specs.Bytes.{read, reg_size}
 use Rattle.ir_meaning.specs.Memory.{MemoryBlock}
 use Rattle.ir_meaning.specs.Operate.{Never}
-use Rattle.ir_meaning.specs.declared.fault.Cause.{Cause}
-use Rattle.ir_meaning.specs.declared.fault.Cause.TheVariants.{StoreToConstant}
+use Rattle.ir_tree.specs.declared.cause.Cause.{Cause}
+use Rattle.ir_tree.specs.declared.cause.Cause.TheVariants.{StoreToConstant}
 use Rattle.ir_machine.specs.Blocks.{block_meant, refused}
 use Rattle.ir_machine.specs.Bytes.{bytes_len}
 use Rattle.ir_machine.specs.declared.block.Block.{Block}

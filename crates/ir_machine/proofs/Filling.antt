@@ -5,20 +5,20 @@ use Rattle.ir_meaning.specs.declared.value.Byte.{Byte}
 use Rattle.ir_meaning.specs.declared.value.Byte.TheVariants as byte
 use Rattle.ir_machine.specs.Bytes.{marks_meant}
 use Rattle.ir_machine.specs.Marks.{are_small}
-use Rattle.ir_machine.specs.declared.mark.Mark.{Mark}
-use Rattle.ir_machine.specs.declared.mark.Mark.TheVariants.{Plain, Unset}
+use Rattle.ir_machine.specs.declared.mark.ByteMark.{ByteMark}
+use Rattle.ir_machine.specs.declared.mark.ByteMark.TheVariants.{Plain, Unset}
 use Rattle.ir_machine.specs.declared.scalar.Pointer.{Pointer}
 
-take_none : (n : ℕ) → take n (let none : List Mark = [] in none) ≡ []
+take_none : (n : ℕ) → take n (let none : List ByteMark = [] in none) ≡ []
 take_none zero = refl
 take_none (suc n) = refl
 
 -- an empty list that was filled up
-pub filled : (n l : ℕ) (old new : List Mark) (m : Mark) → new ≡ take n old ++ replicate (n - l) m → old ≡ [] → l ≡ 0 → new ≡ replicate n m
+pub filled : (n l : ℕ) (old new : List ByteMark) (m : ByteMark) → new ≡ take n old ++ replicate (n - l) m → old ≡ [] → l ≡ 0 → new ≡ replicate n m
 filled n l old new m e f g =
-    e ∙ ap (λ (ms : List Mark). take n ms ++ replicate (n - l) m) f
+    e ∙ ap (λ (ms : List ByteMark). take n ms ++ replicate (n - l) m) f
     ∙ ap (λ (k : ℕ). take n [] ++ replicate (n - k) m) g
-    ∙ ap (λ (ms : List Mark). ms ++ replicate (n - 0) m) (take_none n)
+    ∙ ap (λ (ms : List ByteMark). ms ++ replicate (n - 0) m) (take_none n)
     ∙ ap (λ (k : ℕ). replicate k m) (omega arith)
 
 pub unset_meant : (names : List Symbol) (at : ℕ → Pointer) (q n : ℕ) → marks_meant names at q (replicate n Unset) ≡ replicate n byte.Unset

@@ -9,7 +9,7 @@ use Rattle.ir_tree.specs.declared.operand.Symbol.{Symbol}
 use Rattle.ir_meaning.specs.Access.{access_cause, overwritten, reaches, refusal_in, store, store_in}
 use Rattle.ir_meaning.specs.Bytes.{reg_size, stored_bytes}
 use Rattle.ir_meaning.specs.Memory.{Memory as MeantMemory, MemoryBlock, size_or_zero}
-use Rattle.ir_meaning.specs.declared.fault.Cause.TheVariants.{BadPointer, Misaligned, OutOfBounds, StoreToConstant}
+use Rattle.ir_tree.specs.declared.cause.Cause.TheVariants.{BadPointer, Misaligned, OutOfBounds, StoreToConstant}
 use Rattle.ir_meaning.specs.declared.value.Base.TheVariants.{Cell}
 use Rattle.ir_meaning.specs.declared.value.Value.{Value as MeantValue}
 use Rattle.ir_meaning.specs.declared.value.Value.TheVariants as value

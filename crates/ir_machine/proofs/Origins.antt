@@ -9,7 +9,7 @@ use Rattle.ir_machine.specs.Memories.{GainsNone, InBlocks, InMemory, IsLoaded, b
 use Rattle.ir_machine.specs.Origins.{Holds, HoldsNoMore, HoldsNone, IsHeld}
 use Rattle.ir_machine.specs.declared.block.Block.{Block}
 use Rattle.ir_machine.specs.declared.bytes.Bytes.{Bytes}
-use Rattle.ir_machine.specs.declared.mark.Mark.{Mark}
+use Rattle.ir_machine.specs.declared.mark.ByteMark.{ByteMark}
 use Rattle.ir_machine.specs.declared.memory.Memory.{Memory}
 use Rattle.ir_machine.specs.declared.outcome.Outcome.{Outcome}
 use Rattle.ir_machine.specs.declared.outcome.Outcome.TheVariants.{Uninit, Undefined, Value as OfValue}
@@ -55,7 +55,7 @@ or_null : (b : Bytes) (place : ℕ) (o : Option Pointer) → hash.get nat_eq b.p
 or_null b place None e = inl refl
 or_null b place (Some p) e = inr (place, e)
 
-pub held_in : (b : Bytes) (place : ℕ) (ms : List Mark) → IsHeld b (OfValue (pointer_in (pointer_at b place) ms))
+pub held_in : (b : Bytes) (place : ℕ) (ms : List ByteMark) → IsHeld b (OfValue (pointer_in (pointer_at b place) ms))
 held_in b place ms = by (are_parts 0 ms) where
   other : (o : Bool) → IsHeld b (OfValue (if o then scalar.Pointer null else scalar.Poison))
   other true = inl refl

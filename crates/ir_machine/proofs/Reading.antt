@@ -15,14 +15,14 @@ use Rattle.ir_meaning.specs.declared.value.Value.TheVariants as value
 use Rattle.ir_machine.specs.Bytes.{is_zero, marks_meant, null, pointer_in}
 use Rattle.ir_machine.specs.Marks.{are_parts, is_spoilt, is_unset, marks_number}
 use Rattle.ir_machine.specs.Meant.{base_meant, meant}
-use Rattle.ir_machine.specs.declared.mark.Mark.{Mark}
-use Rattle.ir_machine.specs.declared.mark.Mark.TheVariants.{Part, Plain, Spoilt, Unset}
+use Rattle.ir_machine.specs.declared.mark.ByteMark.{ByteMark}
+use Rattle.ir_machine.specs.declared.mark.ByteMark.TheVariants.{Part, Plain, Spoilt, Unset}
 use Rattle.ir_machine.specs.declared.scalar.Pointer.{Pointer}
 use Rattle.ir_machine.specs.declared.scalar.Scalar.TheVariants as scalar
 
 -- ---- the tests on marks are those on bytes
 
-pub unset_same : (names : List Symbol) (at : ℕ → Pointer) (q : ℕ) (ms : List Mark) →
+pub unset_same : (names : List Symbol) (at : ℕ → Pointer) (q : ℕ) (ms : List ByteMark) →
     has_unset (marks_meant names at q ms) ≡ list_any is_unset ms
 unset_same names at q [] = refl
 unset_same names at q (Unset ∷ ms) = refl
@@ -30,7 +30,7 @@ unset_same names at q (Spoilt ∷ ms) = unset_same names at (suc q) ms
 unset_same names at q (Plain n ∷ ms) = unset_same names at (suc q) ms
 unset_same names at q (Part i ∷ ms) = unset_same names at (suc q) ms
 
-pub spoilt_same : (names : List Symbol) (at : ℕ → Pointer) (q : ℕ) (ms : List Mark) →
+pub spoilt_same : (names : List Symbol) (at : ℕ → Pointer) (q : ℕ) (ms : List ByteMark) →
     has_spoilt (marks_meant names at q ms) ≡ list_any is_spoilt ms
 spoilt_same names at q [] = refl
 spoilt_same names at q (Unset ∷ ms) = spoilt_same names at (suc q) ms
@@ -38,7 +38,7 @@ spoilt_same names at q (Spoilt ∷ ms) = refl
 spoilt_same names at q (Plain n ∷ ms) = spoilt_same names at (suc q) ms
 spoilt_same names at q (Part i ∷ ms) = spoilt_same names at (suc q) ms
 
-pub number_same : (names : List Symbol) (at : ℕ → Pointer) (q : ℕ) (ms : List Mark) →
+pub number_same : (names : List Symbol) (at : ℕ → Pointer) (q : ℕ) (ms : List ByteMark) →
     read_number (marks_meant names at q ms) ≡ marks_number ms
 number_same names at q [] = refl
 number_same names at q (Unset ∷ ms) = refl
@@ -48,25 +48,25 @@ number_same names at q (Part i ∷ ms) = refl
 
 -- ---- where a byte is unwritten or poison there is no number
 
-pub unset_none : (ms : List Mark) → list_any is_unset ms ≡ true → marks_number ms ≡ None
+pub unset_none : (ms : List ByteMark) → list_any is_unset ms ≡ true → marks_number ms ≡ None
 unset_none [] h = absurd (cc h)
 unset_none (Unset ∷ ms) h = refl
 unset_none (Spoilt ∷ ms) h = refl
 unset_none (Plain n ∷ ms) h = ap (λ (o : Option ℕ). raised n o) (unset_none ms h)
 unset_none (Part i ∷ ms) h = refl
 
-pub spoilt_none : (ms : List Mark) → list_any is_spoilt ms ≡ true → marks_number ms ≡ None
+pub spoilt_none : (ms : List ByteMark) → list_any is_spoilt ms ≡ true → marks_number ms ≡ None
 spoilt_none [] h = absurd (cc h)
 spoilt_none (Unset ∷ ms) h = refl
 spoilt_none (Spoilt ∷ ms) h = refl
 spoilt_none (Plain n ∷ ms) h = ap (λ (o : Option ℕ). raised n o) (spoilt_none ms h)
 spoilt_none (Part i ∷ ms) h = refl
 
-no_unset : (ms : List Mark) (n : ℕ) (v : Bool) → list_any is_unset ms ≡ v → marks_number ms ≡ Some n → list_any is_unset ms ≡ false
+no_unset : (ms : List ByteMark) (n : ℕ) (v : Bool) → list_any is_unset ms ≡ v → marks_number ms ≡ Some n → list_any is_unset ms ≡ false
 no_unset ms n false e h = e
 no_unset ms n true e h = let none : marks_number ms ≡ None = unset_none ms e in absurd (cc (none, h))
 
-no_spoilt : (ms : List Mark) (n : ℕ) (v : Bool) → list_any is_spoilt ms ≡ v → marks_number ms ≡ Some n → list_any is_spoilt ms ≡ false
+no_spoilt : (ms : List ByteMark) (n : ℕ) (v : Bool) → list_any is_spoilt ms ≡ v → marks_number ms ≡ Some n → list_any is_spoilt ms ≡ false
 no_spoilt ms n false e h = e
 no_spoilt ms n true e h = let none : marks_number ms ≡ None = spoilt_none ms e in absurd (cc (none, h))
 
@@ -76,7 +76,7 @@ no_spoilt ms n true e h = let none : marks_number ms ≡ None = spoilt_none ms e
 abbrev pub picked : Bool → Bool → MeantValue → Answer
 picked unset spoilt v = if unset then Unwritten else (if spoilt then Is value.Poison else Is v)
 
-pub integer_read : (names : List Symbol) (at : ℕ → Pointer) (q w n : ℕ) (ms : List Mark) → marks_number ms ≡ Some n →
+pub integer_read : (names : List Symbol) (at : ℕ → Pointer) (q w n : ℕ) (ms : List ByteMark) → marks_number ms ≡ Some n →
     read (Int w) (marks_meant names at q ms) ≡ Is (value.Number n)
 integer_read names at q w n ms h =
     let u : has_unset (marks_meant names at q ms) ≡ false = unset_same names at q ms ∙ no_unset ms n (list_any is_unset ms) refl h in
@@ -86,7 +86,7 @@ integer_read names at q w n ms h =
     ∙ ap (λ (b : Bool). picked false b (or_poison (read_number (marks_meant names at q ms)))) s
     ∙ ap (λ (o : Option ℕ). Is (or_poison o)) r
 
-pub unset_read : (names : List Symbol) (at : ℕ → Pointer) (q w : ℕ) (ms : List Mark) → list_any is_unset ms ≡ true →
+pub unset_read : (names : List Symbol) (at : ℕ → Pointer) (q w : ℕ) (ms : List ByteMark) → list_any is_unset ms ≡ true →
     read (Int w) (marks_meant names at q ms) ≡ Unwritten
 unset_read names at q w ms h =
     ap (λ (b : Bool). picked b (has_spoilt (marks_meant names at q ms)) (or_poison (read_number (marks_meant names at q ms)))) (unset_same names at q ms ∙ h)
@@ -95,7 +95,7 @@ same_poison : (b : Bool) → picked false b value.Poison ≡ Is value.Poison
 same_poison true = refl
 same_poison false = refl
 
-pub mixed_read : (names : List Symbol) (at : ℕ → Pointer) (q w : ℕ) (ms : List Mark) → list_any is_unset ms ≡ false → marks_number ms ≡ None →
+pub mixed_read : (names : List Symbol) (at : ℕ → Pointer) (q w : ℕ) (ms : List ByteMark) → list_any is_unset ms ≡ false → marks_number ms ≡ None →
     read (Int w) (marks_meant names at q ms) ≡ Is value.Poison
 mixed_read names at q w ms h none =
     ap (λ (b : Bool). picked b (has_spoilt (marks_meant names at q ms)) (or_poison (read_number (marks_meant names at q ms)))) (unset_same names at q ms ∙ h)
@@ -130,7 +130,7 @@ both_right : (a b : Bool) → (a && b) ≡ true → b ≡ true
 both_right true b e = e
 both_right false b e = absurd (cc e)
 
-pub parts_true : (names : List Symbol) (at : ℕ → Pointer) (q i : ℕ) (ms : List Mark) → are_parts i ms ≡ true →
+pub parts_true : (names : List Symbol) (at : ℕ → Pointer) (q i : ℕ) (ms : List ByteMark) → are_parts i ms ≡ true →
     are_fragments i (base_meant names (at q).base) (at q).offset (marks_meant names at (q + i) ms) ≡ true
 parts_true names at q i [] h = refl
 parts_true names at q i (Unset ∷ ms) h = absurd (cc h)
@@ -153,7 +153,7 @@ turned i j h = by (i == j) refl where
   by false e = e
   by true e = let back : (j == i) ≡ true = eq-eqb j i (sym (eqb-true i j e)) in absurd (cc (back, h))
 
-parts_false_by : (names : List Symbol) (at : ℕ → Pointer) (q i : ℕ) (x : MeantBase) (o j : ℕ) (ms : List Mark) (v : Bool) → (j == i) ≡ v →
+parts_false_by : (names : List Symbol) (at : ℕ → Pointer) (q i : ℕ) (x : MeantBase) (o j : ℕ) (ms : List ByteMark) (v : Bool) → (j == i) ≡ v →
     ((j == i) && are_parts (suc i) ms) ≡ false →
     (are_parts (suc i) ms ≡ false → are_fragments (suc i) x o (marks_meant names at (suc q) ms) ≡ false) →
     are_fragments i x o (marks_meant names at q (Part j ∷ ms)) ≡ false
@@ -165,7 +165,7 @@ parts_false_by names at q i x o j ms true e h go =
     (are_fragments (suc i) x o (marks_meant names at (suc q) ms))
     (go (ap (λ (v : Bool). v && are_parts (suc i) ms) (sym e) ∙ h))
 
-pub parts_false : (names : List Symbol) (at : ℕ → Pointer) (q i : ℕ) (x : MeantBase) (o : ℕ) (ms : List Mark) → are_parts i ms ≡ false →
+pub parts_false : (names : List Symbol) (at : ℕ → Pointer) (q i : ℕ) (x : MeantBase) (o : ℕ) (ms : List ByteMark) → are_parts i ms ≡ false →
     are_fragments i x o (marks_meant names at q ms) ≡ false
 parts_false names at q i x o [] h = absurd (cc h)
 parts_false names at q i x o (Unset ∷ ms) h = refl
@@ -193,7 +193,7 @@ zero_raised zero (Some (suc m)) = above_zero (0 + 256 * suc m) (256 * m + 255) (
 zero_raised (suc n) (Some m) =
     above_zero (suc n + 256 * m) (n + 256 * m) (omega arith) ∙ sym (ap (λ (b : Bool). b && is_zero (Some m)) (not_zero n))
 
-pub zero_same : (names : List Symbol) (at : ℕ → Pointer) (q : ℕ) (ms : List Mark) →
+pub zero_same : (names : List Symbol) (at : ℕ → Pointer) (q : ℕ) (ms : List ByteMark) →
     is_zero (marks_number ms) ≡ are_zero (marks_meant names at q ms)
 zero_same names at q [] = refl
 zero_same names at q (Unset ∷ ms) = refl
@@ -211,7 +211,7 @@ both_false : (a b : Bool) → b ≡ false → (a && b) ≡ false
 both_false true b e = e
 both_false false b e = refl
 
-not_head : (names : List Symbol) (at : ℕ → Pointer) (q j : ℕ) (ms : List Mark) (v : Bool) → (j == 0) ≡ v → ((j == 0) && are_parts 1 ms) ≡ false →
+not_head : (names : List Symbol) (at : ℕ → Pointer) (q j : ℕ) (ms : List ByteMark) (v : Bool) → (j == 0) ≡ v → ((j == 0) && are_parts 1 ms) ≡ false →
     ((0 == j) && are_fragments 1 (base_meant names (at (q - j)).base) (at (q - j)).offset (marks_meant names at (suc q) ms)) ≡ false
 not_head names at q j ms false e h =
     ap (λ (b : Bool). b && are_fragments 1 (base_meant names (at (q - j)).base) (at (q - j)).offset (marks_meant names at (suc q) ms)) (turned 0 j e)
@@ -220,7 +220,7 @@ not_head names at q j ms true e h =
     (parts_false names at (suc q) 1 (base_meant names (at (q - j)).base) (at (q - j)).offset ms (ap (λ (b : Bool). b && are_parts 1 ms) (sym e) ∙ h))
 
 -- the pointer of r, by whether the parts are its parts
-part_head : (names : List Symbol) (at : ℕ → Pointer) (q j : ℕ) (ms : List Mark) (v : Bool) → ((j == 0) && are_parts 1 ms) ≡ v →
+part_head : (names : List Symbol) (at : ℕ → Pointer) (q j : ℕ) (ms : List ByteMark) (v : Bool) → ((j == 0) && are_parts 1 ms) ≡ v →
     meant names (if v then scalar.Pointer (at q) else scalar.Poison)
     ≡ (if (0 == j) && are_fragments 1 (base_meant names (at (q - j)).base) (at (q - j)).offset (marks_meant names at (suc q) ms)
     then value.Pointer (base_meant names (at (q - j)).base) (at (q - j)).offset else value.Poison)
@@ -240,7 +240,7 @@ part_head names at q j ms false e =
     sym (ap (λ (b : Bool). if b then value.Pointer (base_meant names (at (q - j)).base) (at (q - j)).offset else value.Poison)
     (not_head names at q j ms (j == 0) refl e))
 
-pub pointer_same : (names : List Symbol) (at : ℕ → Pointer) (q : ℕ) (m : Mark) (ms : List Mark) →
+pub pointer_same : (names : List Symbol) (at : ℕ → Pointer) (q : ℕ) (m : ByteMark) (ms : List ByteMark) →
     meant names (pointer_in (at q) (m ∷ ms)) ≡ read_pointer (marks_meant names at q (m ∷ ms))
 pointer_same names at q Unset ms = refl
 pointer_same names at q Spoilt ms = refl
@@ -251,7 +251,7 @@ pointer_same names at q (Plain n) ms =
 pointer_same names at q (Part j) ms = part_head names at q j ms ((j == 0) && are_parts 1 ms) refl
 
 -- a pointer of marks of which none is unwritten or poison
-pub pointer_read : (names : List Symbol) (at : ℕ → Pointer) (q : ℕ) (ms : List Mark) → 1 ≤ length ms →
+pub pointer_read : (names : List Symbol) (at : ℕ → Pointer) (q : ℕ) (ms : List ByteMark) → 1 ≤ length ms →
     list_any is_unset ms ≡ false → list_any is_spoilt ms ≡ false →
     read Ptr (marks_meant names at q ms) ≡ Is (meant names (pointer_in (at q) ms))
 pointer_read names at q [] some u s = absurd (omega arith)
@@ -260,12 +260,12 @@ pointer_read names at q (m ∷ ms) some u s =
     ∙ ap (λ (b : Bool). picked false b (read_pointer (marks_meant names at q (m ∷ ms)))) (spoilt_same names at q (m ∷ ms) ∙ s)
     ∙ ap (λ (v : MeantValue). Is v) (sym (pointer_same names at q m ms))
 
-pub pointer_unset : (names : List Symbol) (at : ℕ → Pointer) (q : ℕ) (ms : List Mark) → list_any is_unset ms ≡ true →
+pub pointer_unset : (names : List Symbol) (at : ℕ → Pointer) (q : ℕ) (ms : List ByteMark) → list_any is_unset ms ≡ true →
     read Ptr (marks_meant names at q ms) ≡ Unwritten
 pointer_unset names at q ms u =
     ap (λ (b : Bool). picked b (has_spoilt (marks_meant names at q ms)) (read_pointer (marks_meant names at q ms))) (unset_same names at q ms ∙ u)
 
-pub pointer_spoilt : (names : List Symbol) (at : ℕ → Pointer) (q : ℕ) (ms : List Mark) → list_any is_unset ms ≡ false → list_any is_spoilt ms ≡ true →
+pub pointer_spoilt : (names : List Symbol) (at : ℕ → Pointer) (q : ℕ) (ms : List ByteMark) → list_any is_unset ms ≡ false → list_any is_spoilt ms ≡ true →
     read Ptr (marks_meant names at q ms) ≡ Is value.Poison
 pointer_spoilt names at q ms u s =
     ap (λ (b : Bool). picked b (has_spoilt (marks_meant names at q ms)) (read_pointer (marks_meant names at q ms))) (unset_same names at q ms ∙ u)

@@ -5,28 +5,28 @@ use Rattle.ir_tree.specs.declared.operand.Symbol.{Symbol}
 use Rattle.ir_meaning.specs.Access.{overwritten}
 use Rattle.ir_meaning.specs.declared.value.Byte.{Byte}
 use Rattle.ir_machine.specs.Bytes.{mark_meant, marks_meant}
-use Rattle.ir_machine.specs.declared.mark.Mark.{Mark}
+use Rattle.ir_machine.specs.declared.mark.ByteMark.{ByteMark}
 use Rattle.ir_machine.specs.declared.scalar.Pointer.{Pointer}
 
 -- the same marks from the same place
-pub placed : (names : List Symbol) (at : ℕ → Pointer) (q r : ℕ) (ms : List Mark) → q ≡ r → marks_meant names at q ms ≡ marks_meant names at r ms
+pub placed : (names : List Symbol) (at : ℕ → Pointer) (q r : ℕ) (ms : List ByteMark) → q ≡ r → marks_meant names at q ms ≡ marks_meant names at r ms
 placed names at q r ms e = ap (λ (n : ℕ). marks_meant names at n ms) e
 
-pub dropped : (names : List Symbol) (at : ℕ → Pointer) (q o : ℕ) (ms : List Mark) →
+pub dropped : (names : List Symbol) (at : ℕ → Pointer) (q o : ℕ) (ms : List ByteMark) →
     drop o (marks_meant names at q ms) ≡ marks_meant names at (q + o) (drop o ms)
 dropped names at q zero ms = placed names at q (q + 0) ms (sym (add-zero q))
 dropped names at q (suc o) [] = refl
 dropped names at q (suc o) (m ∷ ms) =
     dropped names at (suc q) o ms ∙ placed names at (suc q + o) (q + suc o) (drop o ms) (omega arith)
 
-pub taken : (names : List Symbol) (at : ℕ → Pointer) (q k : ℕ) (ms : List Mark) →
+pub taken : (names : List Symbol) (at : ℕ → Pointer) (q k : ℕ) (ms : List ByteMark) →
     take k (marks_meant names at q ms) ≡ marks_meant names at q (take k ms)
 taken names at q zero ms = refl
 taken names at q (suc k) [] = refl
 taken names at q (suc k) (m ∷ ms) = ap (λ (bs : List Byte). mark_meant names at q m ∷ bs) (taken names at (suc q) k ms)
 
 -- k bytes from place o on
-pub window : (names : List Symbol) (at : ℕ → Pointer) (k o : ℕ) (ms : List Mark) →
+pub window : (names : List Symbol) (at : ℕ → Pointer) (k o : ℕ) (ms : List ByteMark) →
     take k (drop o (marks_meant names at 0 ms)) ≡ marks_meant names at o (take k (drop o ms))
 window names at k o ms =
     ap (λ (bs : List Byte). take k bs) (dropped names at 0 o ms)
@@ -34,14 +34,14 @@ window names at k o ms =
     ∙ placed names at (0 + o) o (take k (drop o ms)) (zero-add o)
 
 -- the same, of marks and a size that are given otherwise
-pub window_of : (names : List Symbol) (at : ℕ → Pointer) (k n o : ℕ) (ms given : List Mark) → given ≡ ms → n ≡ k →
+pub window_of : (names : List Symbol) (at : ℕ → Pointer) (k n o : ℕ) (ms given : List ByteMark) → given ≡ ms → n ≡ k →
     take k (drop o (marks_meant names at 0 ms)) ≡ marks_meant names at o (take n (drop o given))
 window_of names at k n o ms given e f =
     window names at k o ms
-    ∙ ap (λ (xs : List Mark). marks_meant names at o (take k (drop o xs))) (sym e)
+    ∙ ap (λ (xs : List ByteMark). marks_meant names at o (take k (drop o xs))) (sym e)
     ∙ ap (λ (i : ℕ). marks_meant names at o (take i (drop o given))) (sym f)
 
-pub appended : (names : List Symbol) (at : ℕ → Pointer) (q : ℕ) (xs ys : List Mark) →
+pub appended : (names : List Symbol) (at : ℕ → Pointer) (q : ℕ) (xs ys : List ByteMark) →
     marks_meant names at q (xs ++ ys) ≡ marks_meant names at q xs ++ marks_meant names at (q + length xs) ys
 appended names at q [] ys = placed names at q (q + 0) ys (sym (add-zero q))
 appended names at q (x ∷ xs) ys =
@@ -49,12 +49,12 @@ appended names at q (x ∷ xs) ys =
     ∙ ap (λ (bs : List Byte). mark_meant names at q x ∷ (marks_meant names at (suc q) xs ++ bs))
     (placed names at (suc q + length xs) (q + suc (length xs)) ys (omega arith))
 
-pub as_many : (names : List Symbol) (at : ℕ → Pointer) (q : ℕ) (ms : List Mark) → length (marks_meant names at q ms) ≡ length ms
+pub as_many : (names : List Symbol) (at : ℕ → Pointer) (q : ℕ) (ms : List ByteMark) → length (marks_meant names at q ms) ≡ length ms
 as_many names at q [] = refl
 as_many names at q (m ∷ ms) = ap (λ (n : ℕ). suc n) (as_many names at (suc q) ms)
 
 -- the bytes with others in place of some
-pub overwritten_meant : (names : List Symbol) (at : ℕ → Pointer) (o : ℕ) (ms new : List Mark) → o ≤ length ms →
+pub overwritten_meant : (names : List Symbol) (at : ℕ → Pointer) (o : ℕ) (ms new : List ByteMark) → o ≤ length ms →
     marks_meant names at 0 (take o ms ++ (new ++ drop (o + length new) ms))
     ≡ overwritten (marks_meant names at 0 ms) o (marks_meant names at o new)
 overwritten_meant names at o ms new h =

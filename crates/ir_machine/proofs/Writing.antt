@@ -11,8 +11,8 @@ use Rattle.ir_meaning.specs.declared.value.Byte.TheVariants as byte
 use Rattle.ir_machine.specs.Bytes.{marks_meant, part_of}
 use Rattle.ir_machine.specs.Marks.{are_small, number_marks, part_marks}
 use Rattle.ir_machine.specs.Meant.{base_meant}
-use Rattle.ir_machine.specs.declared.mark.Mark.{Mark}
-use Rattle.ir_machine.specs.declared.mark.Mark.TheVariants.{Part, Plain, Spoilt, Unset}
+use Rattle.ir_machine.specs.declared.mark.ByteMark.{ByteMark}
+use Rattle.ir_machine.specs.declared.mark.ByteMark.TheVariants.{Part, Plain, Spoilt, Unset}
 use Rattle.ir_machine.specs.declared.scalar.Pointer.{Pointer}
 use Rattle.ir_machine.proofs.Windows.{appended, dropped, overwritten_meant, placed, taken}
 
@@ -55,7 +55,7 @@ right_true : (a b : Bool) → (a && b) ≡ true → b ≡ true
 right_true true b e = e
 right_true false b e = absurd (cc e)
 
-pub small_joined : (xs ys : List Mark) → are_small xs ≡ true → are_small ys ≡ true → are_small (xs ++ ys) ≡ true
+pub small_joined : (xs ys : List ByteMark) → are_small xs ≡ true → are_small ys ≡ true → are_small (xs ++ ys) ≡ true
 small_joined [] ys e f = f
 small_joined (Unset ∷ xs) ys e f = small_joined xs ys e f
 small_joined (Spoilt ∷ xs) ys e f = small_joined xs ys e f
@@ -63,7 +63,7 @@ small_joined (Plain n ∷ xs) ys e f = small_joined xs ys e f
 small_joined (Part i ∷ xs) ys e f =
     both_true (nat_lt i 8) (are_small (xs ++ ys)) (left_true (nat_lt i 8) (are_small xs) e) (small_joined xs ys (right_true (nat_lt i 8) (are_small xs) e) f)
 
-pub small_left : (xs ys : List Mark) → are_small (xs ++ ys) ≡ true → are_small xs ≡ true
+pub small_left : (xs ys : List ByteMark) → are_small (xs ++ ys) ≡ true → are_small xs ≡ true
 small_left [] ys e = refl
 small_left (Unset ∷ xs) ys e = small_left xs ys e
 small_left (Spoilt ∷ xs) ys e = small_left xs ys e
@@ -71,17 +71,17 @@ small_left (Plain n ∷ xs) ys e = small_left xs ys e
 small_left (Part i ∷ xs) ys e =
     both_true (nat_lt i 8) (are_small xs) (left_true (nat_lt i 8) (are_small (xs ++ ys)) e) (small_left xs ys (right_true (nat_lt i 8) (are_small (xs ++ ys)) e))
 
-pub small_right : (xs ys : List Mark) → are_small (xs ++ ys) ≡ true → are_small ys ≡ true
+pub small_right : (xs ys : List ByteMark) → are_small (xs ++ ys) ≡ true → are_small ys ≡ true
 small_right [] ys e = e
 small_right (Unset ∷ xs) ys e = small_right xs ys e
 small_right (Spoilt ∷ xs) ys e = small_right xs ys e
 small_right (Plain n ∷ xs) ys e = small_right xs ys e
 small_right (Part i ∷ xs) ys e = small_right xs ys (right_true (nat_lt i 8) (are_small (xs ++ ys)) e)
 
-pub small_front : (o : ℕ) (ms : List Mark) → are_small ms ≡ true → are_small (take o ms) ≡ true
+pub small_front : (o : ℕ) (ms : List ByteMark) → are_small ms ≡ true → are_small (take o ms) ≡ true
 small_front o ms e = small_left (take o ms) (drop o ms) (ap are_small (take-append-drop o ms) ∙ e)
 
-pub small_back : (o : ℕ) (ms : List Mark) → are_small ms ≡ true → are_small (drop o ms) ≡ true
+pub small_back : (o : ℕ) (ms : List ByteMark) → are_small ms ≡ true → are_small (drop o ms) ≡ true
 small_back o ms e = small_right (take o ms) (drop o ms) (ap are_small (take-append-drop o ms) ∙ e)
 
 pub small_number : (k n : ℕ) → are_small (number_marks k n) ≡ true
@@ -93,11 +93,11 @@ small_poison zero = refl
 small_poison (suc k) = small_poison k
 
 -- marks with others in place of some
-pub small_written : (o k : ℕ) (ms new : List Mark) → are_small ms ≡ true → are_small new ≡ true → are_small (take o ms ++ (new ++ drop (o + k) ms)) ≡ true
+pub small_written : (o k : ℕ) (ms new : List ByteMark) → are_small ms ≡ true → are_small new ≡ true → are_small (take o ms ++ (new ++ drop (o + k) ms)) ≡ true
 small_written o k ms new e f =
     small_joined (take o ms) (new ++ drop (o + k) ms) (small_front o ms e) (small_joined new (drop (o + k) ms) f (small_back (o + k) ms e))
 
-pub long_written : (o k : ℕ) (ms new : List Mark) → o + k ≤ length ms → length new ≡ k → length (take o ms ++ (new ++ drop (o + k) ms)) ≡ length ms
+pub long_written : (o k : ℕ) (ms new : List ByteMark) → o + k ≤ length ms → length new ≡ k → length (take o ms ++ (new ++ drop (o + k) ms)) ≡ length ms
 long_written o k ms new h e =
     let whole : length (take o ms ++ (new ++ drop (o + k) ms)) ≡ length (take o ms) + length (new ++ drop (o + k) ms) = length-append (take o ms) (new ++ drop (o + k) ms) in
     let part : length (new ++ drop (o + k) ms) ≡ length new + length (drop (o + k) ms) = length-append new (drop (o + k) ms) in
@@ -107,7 +107,7 @@ long_written o k ms new h e =
 
 -- ---- another pointer at a place changes what the parts of the old one mean, and nothing else
 
-pub kept_before : (names : List Symbol) (at at' : ℕ → Pointer) (o : ℕ) → ((r : ℕ) → r ≢ o → at' r ≡ at r) → (q : ℕ) (ms : List Mark) →
+pub kept_before : (names : List Symbol) (at at' : ℕ → Pointer) (o : ℕ) → ((r : ℕ) → r ≢ o → at' r ≡ at r) → (q : ℕ) (ms : List ByteMark) →
     q + length ms ≤ o → marks_meant names at' q ms ≡ marks_meant names at q ms
 kept_before names at at' o same q [] h = refl
 kept_before names at at' o same q (Unset ∷ ms) h = ap (λ (bs : List Byte). byte.Unset ∷ bs) (kept_before names at at' o same (suc q) ms (omega (arith, h)))
@@ -117,7 +117,7 @@ kept_before names at at' o same q (Part i ∷ ms) h =
     ap (λ (p : Pointer). part_of names i p ∷ marks_meant names at' (suc q) ms) (same (q - i) (λ (e : q - i ≡ o). omega (arith, e, h)))
     ∙ ap (λ (bs : List Byte). part_of names i (at (q - i)) ∷ bs) (kept_before names at at' o same (suc q) ms (omega (arith, h)))
 
-pub kept_behind : (names : List Symbol) (at at' : ℕ → Pointer) (o : ℕ) → ((r : ℕ) → r ≢ o → at' r ≡ at r) → (q : ℕ) (ms : List Mark) →
+pub kept_behind : (names : List Symbol) (at at' : ℕ → Pointer) (o : ℕ) → ((r : ℕ) → r ≢ o → at' r ≡ at r) → (q : ℕ) (ms : List ByteMark) →
     are_small ms ≡ true → o + 8 ≤ q → marks_meant names at' q ms ≡ marks_meant names at q ms
 kept_behind names at at' o same q [] s h = refl
 kept_behind names at at' o same q (Unset ∷ ms) s h = ap (λ (bs : List Byte). byte.Unset ∷ bs) (kept_behind names at at' o same (suc q) ms s (omega (arith, h)))
@@ -131,27 +131,27 @@ kept_behind names at at' o same q (Part i ∷ ms) s h =
 
 -- ---- stores
 
-pub number_stored : (names : List Symbol) (at : ℕ → Pointer) (o k n : ℕ) (ms new : List Mark) → o + k ≤ length ms →
+pub number_stored : (names : List Symbol) (at : ℕ → Pointer) (o k n : ℕ) (ms new : List ByteMark) → o + k ≤ length ms →
     new ≡ take o ms ++ (number_marks k n ++ drop (o + k) ms) →
     marks_meant names at 0 new ≡ overwritten (marks_meant names at 0 ms) o (number_bytes k n)
 number_stored names at o k n ms new h e =
-    ap (λ (xs : List Mark). marks_meant names at 0 xs) e
+    ap (λ (xs : List ByteMark). marks_meant names at 0 xs) e
     ∙ ap (λ (j : ℕ). marks_meant names at 0 (take o ms ++ (number_marks k n ++ drop (o + j) ms))) (sym (number_long k n))
     ∙ overwritten_meant names at o ms (number_marks k n) (omega (arith, h))
     ∙ ap (λ (bs : List Byte). overwritten (marks_meant names at 0 ms) o bs) (number_meant names at o k n)
 
-pub poison_stored : (names : List Symbol) (at : ℕ → Pointer) (o k : ℕ) (ms new : List Mark) → o + k ≤ length ms →
+pub poison_stored : (names : List Symbol) (at : ℕ → Pointer) (o k : ℕ) (ms new : List ByteMark) → o + k ≤ length ms →
     new ≡ take o ms ++ (replicate k Spoilt ++ drop (o + k) ms) →
     marks_meant names at 0 new ≡ overwritten (marks_meant names at 0 ms) o (replicate k byte.Spoilt)
 poison_stored names at o k ms new h e =
-    ap (λ (xs : List Mark). marks_meant names at 0 xs) e
+    ap (λ (xs : List ByteMark). marks_meant names at 0 xs) e
     ∙ ap (λ (j : ℕ). marks_meant names at 0 (take o ms ++ (replicate k Spoilt ++ drop (o + j) ms))) (sym (poison_long k))
     ∙ overwritten_meant names at o ms (replicate k Spoilt) (omega (arith, h))
     ∙ ap (λ (bs : List Byte). overwritten (marks_meant names at 0 ms) o bs) (poison_meant names at o k)
 
 -- the marks around the eight parts mean what they meant
-around : (names : List Symbol) (at at' : ℕ → Pointer) (o : ℕ) (ms : List Mark) → ((r : ℕ) → r ≢ o → at' r ≡ at r) → are_small ms ≡ true → o + 8 ≤ length ms →
-    (new : List Mark) → length new ≡ 8 →
+around : (names : List Symbol) (at at' : ℕ → Pointer) (o : ℕ) (ms : List ByteMark) → ((r : ℕ) → r ≢ o → at' r ≡ at r) → are_small ms ≡ true → o + 8 ≤ length ms →
+    (new : List ByteMark) → length new ≡ 8 →
     marks_meant names at' 0 (take o ms ++ (new ++ drop (o + 8) ms))
     ≡ marks_meant names at 0 (take o ms) ++ (marks_meant names at' o new ++ marks_meant names at (o + 8) (drop (o + 8) ms))
 around names at at' o ms same s h new eight =
@@ -166,7 +166,7 @@ around names at at' o ms same s h new eight =
     (placed names at' (o + length new) (o + 8) (drop (o + 8) ms) (ap (λ (n : ℕ). o + n) eight)
     ∙ kept_behind names at at' o same (o + 8) (drop (o + 8) ms) (small_back (o + 8) ms s) (omega arith)))
 
-pub pointer_stored : (names : List Symbol) (at at' : ℕ → Pointer) (o : ℕ) (p : Pointer) (ms new : List Mark) →
+pub pointer_stored : (names : List Symbol) (at at' : ℕ → Pointer) (o : ℕ) (p : Pointer) (ms new : List ByteMark) →
     ((r : ℕ) → r ≢ o → at' r ≡ at r) → at' o ≡ p → are_small ms ≡ true → o + 8 ≤ length ms →
     new ≡ take o ms ++ (part_marks 8 0 ++ drop (o + 8) ms) →
     marks_meant names at' 0 new ≡ overwritten (marks_meant names at 0 ms) o (fragments 8 0 (base_meant names p.base) p.offset)
@@ -176,7 +176,7 @@ pointer_stored names at at' o p ms new same here s h e =
     ∙ ap (λ (r : Pointer). fragments 8 0 (base_meant names r.base) r.offset) here in
     let back : marks_meant names at (o + 8) (drop (o + 8) ms) ≡ drop (o + 8) (marks_meant names at 0 ms) =
     placed names at (o + 8) (0 + (o + 8)) (drop (o + 8) ms) (omega arith) ∙ sym (dropped names at 0 (o + 8) ms) in
-    ap (λ (xs : List Mark). marks_meant names at' 0 xs) e
+    ap (λ (xs : List ByteMark). marks_meant names at' 0 xs) e
     ∙ around names at at' o ms same s h (part_marks 8 0) refl
     ∙ ap (λ (bs : List Byte). bs ++ (marks_meant names at' o (part_marks 8 0) ++ marks_meant names at (o + 8) (drop (o + 8) ms))) (sym (taken names at 0 o ms))
     ∙ ap (λ (bs : List Byte). take o (marks_meant names at 0 ms) ++ (bs ++ marks_meant names at (o + 8) (drop (o + 8) ms))) bytes

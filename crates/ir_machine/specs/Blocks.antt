@@ -5,7 +5,7 @@ use Rattle.ir_tree.specs.declared.operand.Symbol.{Symbol}
 use Rattle.ir_meaning.specs.Access.{access_cause, overwritten, reaches, refusal_in}
 use Rattle.ir_meaning.specs.Bytes.{reg_size, stored_bytes}
 use Rattle.ir_meaning.specs.Memory.{MemoryBlock}
-use Rattle.ir_meaning.specs.declared.fault.Cause.{Cause}
+use Rattle.ir_tree.specs.declared.cause.Cause.{Cause}
 use Rattle.ir_meaning.specs.declared.value.Value.{Value as MeantValue}
 use Rattle.ir_machine.specs.Bytes.{bytes_len, bytes_meant}
 use Rattle.ir_machine.specs.declared.block.Block.{Block}

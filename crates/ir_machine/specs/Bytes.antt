@@ -7,8 +7,8 @@ use Rattle.ir_meaning.specs.declared.value.Byte.TheVariants as byte
 use Rattle.ir_machine.specs.Marks.{are_parts, marks_number}
 use Rattle.ir_machine.specs.Meant.{base_meant}
 use Rattle.ir_machine.specs.declared.bytes.Bytes.{Bytes}
-use Rattle.ir_machine.specs.declared.mark.Mark.{Mark}
-use Rattle.ir_machine.specs.declared.mark.Mark.TheVariants.{Part, Plain, Spoilt, Unset}
+use Rattle.ir_machine.specs.declared.mark.ByteMark.{ByteMark}
+use Rattle.ir_machine.specs.declared.mark.ByteMark.TheVariants.{Part, Plain, Spoilt, Unset}
 use Rattle.ir_machine.specs.declared.scalar.Base.TheVariants.{Null}
 use Rattle.ir_machine.specs.declared.scalar.Pointer.{Pointer}
 use Rattle.ir_machine.specs.declared.scalar.Scalar.{Scalar}
@@ -26,14 +26,14 @@ abbrev pub part_of : List Symbol → ℕ → Pointer → Byte
 part_of names i p = byte.Fragment i (base_meant names p.base) p.offset
 
 -- the byte that a mark at place q means, where `at` gives the pointer whose first part is at a place
-abbrev pub mark_meant : List Symbol → (ℕ → Pointer) → ℕ → Mark → Byte
+abbrev pub mark_meant : List Symbol → (ℕ → Pointer) → ℕ → ByteMark → Byte
 mark_meant names at q Unset = byte.Unset
 mark_meant names at q Spoilt = byte.Spoilt
 mark_meant names at q (Plain n) = byte.Plain n
 mark_meant names at q (Part i) = part_of names i (at (q - i))
 
 -- the bytes that marks from place q on mean
-abbrev pub marks_meant : List Symbol → (ℕ → Pointer) → ℕ → List Mark → List Byte
+abbrev pub marks_meant : List Symbol → (ℕ → Pointer) → ℕ → List ByteMark → List Byte
 marks_meant names at q [] = []
 marks_meant names at q (m ∷ ms) = mark_meant names at q m ∷ marks_meant names at (suc q) ms
 
@@ -54,5 +54,5 @@ is_zero (Some zero) = true
 is_zero _ = false
 
 -- the pointer that eight marks are, where p is the one whose first part is at their place
-abbrev pub pointer_in : Pointer → List Mark → Scalar
+abbrev pub pointer_in : Pointer → List ByteMark → Scalar
 pointer_in p ms = if are_parts 0 ms then scalar.Pointer p else (if is_zero (marks_number ms) then scalar.Pointer null else scalar.Poison)

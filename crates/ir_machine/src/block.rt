@@ -11,8 +11,7 @@ ghost use Rattle.ir_machine.specs.Origins.{HoldsNoMore, IsHeld};
 use crate::bytes::Bytes;
 use crate::outcome::Outcome;
 use crate::scalar::Scalar;
-use ir_meaning::Cause;
-use ir_tree::Reg;
+use ir_tree::{Cause, Reg};
 use std::alloc::AllocError;
 
 /// A block that lives: its number among all blocks that were ever made, its alignment in bytes, its

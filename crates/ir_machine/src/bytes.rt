@@ -9,7 +9,8 @@ ghost use Rattle.ir_machine.specs.Meant.{answered, base_meant, meant};
 ghost use Rattle.ir_machine.specs.Marks.{are_small, HasWidth};
 
 use crate::mark::{
-    Mark, any_spoilt, any_unset, number_in, parts_in_order, write_number, write_parts, write_poison,
+    ByteMark, any_spoilt, any_unset, number_in, parts_in_order, write_number, write_parts,
+    write_poison,
 };
 use crate::operate::bits;
 use crate::outcome::Outcome;
@@ -22,7 +23,7 @@ use std::collections::HashMap;
 /// part. A pointer that was overwritten in part stays until another is stored at its place.
 #[derive(Drop)]
 pub struct Bytes {
-    marks: Vec<Mark>,
+    marks: Vec<ByteMark>,
     pointers: HashMap<usize, Pointer>,
     ghost small: { are_small marks.items ≡ true },
 }
@@ -39,7 +40,7 @@ impl Bytes {
         ensures empty { IfOk result (λ b. HoldsNone b) }
     {
         let mut marks = Vec::new(alloc);
-        marks.resize(size, Mark::Unset)?;
+        marks.resize(size, ByteMark::Unset)?;
         Ok(Bytes {
             marks,
             pointers: HashMap::new(alloc),
@@ -53,7 +54,7 @@ impl Bytes {
         ensures empty { IfOk result (λ b. HoldsNone b) }
     {
         let mut marks = Vec::new(alloc);
-        marks.resize(size, Mark::Plain(0))?;
+        marks.resize(size, ByteMark::Plain(0))?;
         Ok(Bytes {
             marks,
             pointers: HashMap::new(alloc),
@@ -81,7 +82,7 @@ impl Bytes {
     }
 
     /// Eight bytes as a pointer, where none is unwritten or poison.
-    fn pointer_in(&self, place: usize, window: &[Mark]) -> Scalar
+    fn pointer_in(&self, place: usize, window: &[ByteMark]) -> Scalar
         requires { length window.now ≤ 8 }
         ensures { result ≡ pointer_in (pointer_at self.now place) window.now }
     {

@@ -33,7 +33,7 @@ mod walk;
 
 pub use block::{Block, Stored};
 pub use bytes::Bytes;
-pub use mark::Mark;
+pub use mark::ByteMark;
 pub use memory::Memory;
 pub use operate::{binary, bits, cast, compare_integers, freeze, select};
 pub use outcome::Outcome;

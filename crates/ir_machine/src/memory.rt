@@ -13,8 +13,7 @@ use crate::block::{Block, Stored};
 use crate::bytes::Bytes;
 use crate::outcome::Outcome;
 use crate::scalar::{Base, Handle, Scalar};
-use ir_meaning::Cause;
-use ir_tree::Reg;
+use ir_tree::{Cause, Reg};
 use std::alloc::{AllocError, Global};
 
 /// The blocks that live, in the order in which they were made, and how many were ever made: first the

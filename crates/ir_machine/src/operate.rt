@@ -13,8 +13,8 @@ ghost use Rattle.ir_machine.specs.Meant.{meant, answered};
 
 use crate::outcome::Outcome;
 use crate::scalar::Scalar;
-use ir_meaning::{Answer, Cause, DivisionCause, Value};
-use ir_tree::{BinaryOp, CastOp, Flags, Predicate};
+use ir_meaning::{Answer, DivisionCause, Value};
+use ir_tree::{BinaryOp, CastOp, Cause, Flags, Predicate};
 use lto_bits::narrow;
 
 /// The number of `width` bits that a scalar is: None where it is poison, a pointer, or a number of more

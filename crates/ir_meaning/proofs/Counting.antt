@@ -3,7 +3,7 @@ use Rattle.std.proofs.Common.{◌≡◌, ℕ, zero, suc, ◌+◌, ◌≤◌, ◌
 use Rattle.std.specs.Prelude.{count_by, slice_get}
 use Rattle.std.proofs.lemmas.Bool.{eqb-true, eq-eqb, ne_eqb}
 use Rattle.std.proofs.lemmas.List.Recursion.{is_count_by}
-use Rattle.ir_tree.specs.Flow.{Among, edges, leading, leading_to, repeated, targets}
+use Rattle.ir_tree.specs.Flow.{Among, edges, leading, leading_to, repeated, successors}
 use Rattle.ir_tree.specs.Formed.{Distinct}
 use Rattle.ir_tree.specs.Rules.{place}
 use Rattle.ir_tree.specs.declared.block.Block.{Block}
@@ -65,13 +65,13 @@ times_repeated q k m (t ∷ ts) = by (nat_eq t m) (nat_eq k q) refl (times_repea
 -- how many edges lead from a block to the block m
 abbrev pub out_to : ℕ → Option Block → ℕ
 out_to m None = 0
-out_to m (Some b) = times m (targets b.end)
+out_to m (Some b) = times m (successors b.end)
 
 none_before : (q s m : ℕ) (bs : List Block) → q < s → times q (leading m s bs) ≡ 0
 none_before q s m [] lt = refl
 none_before q s m (b ∷ bs) lt =
-    times_both q (repeated s m (targets b.end)) (leading m (suc s) bs)
-    ∙ sum (times_repeated q s m (targets b.end) ∙ ap (λ (t : Bool). if t then times m (targets b.end) else 0) (ne_eqb s q (λ e. omega (arith, e, lt)))) (none_before q (suc s) m bs (omega (arith, lt)))
+    times_both q (repeated s m (successors b.end)) (leading m (suc s) bs)
+    ∙ sum (times_repeated q s m (successors b.end) ∙ ap (λ (t : Bool). if t then times m (successors b.end) else 0) (ne_eqb s q (λ e. omega (arith, e, lt)))) (none_before q (suc s) m bs (omega (arith, lt)))
   where
     sum : {x y : ℕ} → x ≡ 0 → y ≡ 0 → x + y ≡ 0
     sum e g = omega (arith, e, g)
@@ -79,14 +79,14 @@ none_before q s m (b ∷ bs) lt =
 from_place : (s m : ℕ) (bs : List Block) (i : ℕ) → times (s + i) (leading m s bs) ≡ out_to m (slice_get bs i)
 from_place s m [] i = refl
 from_place s m (b ∷ bs) zero =
-    times_both (s + 0) (repeated s m (targets b.end)) (leading m (suc s) bs)
-    ∙ sum (times_repeated (s + 0) s m (targets b.end) ∙ ap (λ (t : Bool). if t then times m (targets b.end) else 0) (eq-eqb s (s + 0) (omega arith))) (none_before (s + 0) (suc s) m bs (omega arith))
+    times_both (s + 0) (repeated s m (successors b.end)) (leading m (suc s) bs)
+    ∙ sum (times_repeated (s + 0) s m (successors b.end) ∙ ap (λ (t : Bool). if t then times m (successors b.end) else 0) (eq-eqb s (s + 0) (omega arith))) (none_before (s + 0) (suc s) m bs (omega arith))
   where
     sum : {x y z : ℕ} → x ≡ z → y ≡ 0 → x + y ≡ z
     sum e g = omega (arith, e, g)
 from_place s m (b ∷ bs) (suc i) =
-    times_both (s + suc i) (repeated s m (targets b.end)) (leading m (suc s) bs)
-    ∙ sum (times_repeated (s + suc i) s m (targets b.end) ∙ ap (λ (t : Bool). if t then times m (targets b.end) else 0) (ne_eqb s (s + suc i) (λ e. omega (arith, e))))
+    times_both (s + suc i) (repeated s m (successors b.end)) (leading m (suc s) bs)
+    ∙ sum (times_repeated (s + suc i) s m (successors b.end) ∙ ap (λ (t : Bool). if t then times m (successors b.end) else 0) (ne_eqb s (s + suc i) (λ e. omega (arith, e))))
     (ap (λ (q : ℕ). times q (leading m (suc s) bs)) (omega arith) ∙ from_place (suc s) m bs i)
   where
     sum : {x y z : ℕ} → x ≡ 0 → y ≡ z → x + y ≡ z

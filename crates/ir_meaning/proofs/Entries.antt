@@ -4,7 +4,7 @@ use Rattle.std.specs.Prelude.{All, count_by, slice_get}
 use Rattle.std.proofs.lemmas.Bool.{eqb-true, eqb-false, eq-eqb, ne_eqb}
 use Rattle.std.proofs.lemmas.List.Elements.{All-cons, All-head, All-nil, All-tail}
 use Rattle.std.proofs.lemmas.List.Recursion.{is_count_by}
-use Rattle.ir_tree.specs.Flow.{edges, locals, targets}
+use Rattle.ir_tree.specs.Flow.{edges, locals, successors}
 use Rattle.ir_tree.specs.Formed.{Distinct, Formed, numbers}
 use Rattle.ir_tree.specs.Items.{Item, phi_item, end_item, block_items, items_from, lines_from}
 use Rattle.ir_tree.specs.Rules.{Keeps, OnEdges, Sound, place}
@@ -45,7 +45,7 @@ module _ (f : Function) (d : Distinct (numbers_in f.blocks)) where
 
   -- as many entries of a block as it has edges to the phi's
   pub entries_of : (b : ℕ) (block : Block) → slice_get f.blocks b ≡ Some block → (i : ℕ) (from : Block) → slice_get f.blocks i ≡ Some from
-      → (es : List Incoming) → OnEdges f b es → times from.number (sources es) ≡ times block.number (targets from.end)
+      → (es : List Incoming) → OnEdges f b es → times from.number (sources es) ≡ times block.number (successors from.end)
   entries_of b block at_b i from at_i es h =
       sym (by_number i from at_i es) ∙ h.each i ∙ sym (times_is i (edges f b)) ∙ edges_from f b block at_b i ∙ ap (out_to block.number) at_i
 
@@ -68,9 +68,9 @@ phis_on_edges f h b block found = subst (λ (n : ℕ). All (Keeps f PhiEdges) (m
 pub entries_counted : EntriesAreEdges
 entries_counted f sound b i block from at_b at_i = by block.phis (phis_on_edges f sound b block at_b)
   where
-    by : (ps : List Phi) → All (Keeps f PhiEdges) (map (phi_item b) ps) → All (λ p. times from.number (sources p.incoming) ≡ times block.number (targets from.end)) ps
-    by [] h = All-nil (λ p. times from.number (sources p.incoming) ≡ times block.number (targets from.end))
+    by : (ps : List Phi) → All (Keeps f PhiEdges) (map (phi_item b) ps) → All (λ p. times from.number (sources p.incoming) ≡ times block.number (successors from.end)) ps
+    by [] h = All-nil (λ p. times from.number (sources p.incoming) ≡ times block.number (successors from.end))
     by (p ∷ ps) h =
         let edges : OnEdges f b p.incoming = All-head (Keeps f PhiEdges) (phi_item b p) (map (phi_item b) ps) h in
-        All-cons (λ p. times from.number (sources p.incoming) ≡ times block.number (targets from.end)) p ps
+        All-cons (λ p. times from.number (sources p.incoming) ≡ times block.number (successors from.end)) p ps
         (entries_of f (apart f sound.formed) b block at_b i from at_i p.incoming edges) (by ps (All-tail (Keeps f PhiEdges) (phi_item b p) (map (phi_item b) ps) h))

@@ -2,7 +2,7 @@
 use Rattle.std.proofs.Common.{◌≡◌, ℕ, zero, suc, ◌≤◌, nat_eq, Bool, true, false, List, [], ◌∷◌, Option, Some, None, map, ◌⊎◌, inl, inr, refl, sym, ◌∙◌, ap, subst, if◌then◌else◌}
 use Rattle.std.specs.Prelude.{slice_get}
 use Rattle.std.proofs.lemmas.Bool.{eqb-true}
-use Rattle.ir_tree.specs.Flow.{targets}
+use Rattle.ir_tree.specs.Flow.{successors}
 use Rattle.ir_tree.specs.declared.block.Block.{Block}
 use Rattle.ir_tree.specs.declared.block.Case.{Case}
 use Rattle.ir_tree.specs.declared.block.Terminator.{Terminator}
@@ -14,7 +14,7 @@ use Rattle.ir_meaning.specs.declared.value.Value.{Value}
 use Rattle.ir_meaning.specs.Counted.{times}
 use Rattle.ir_meaning.proofs.Counting.{here, later}
 
--- ---- targets
+-- ---- successors
 
 case_among : (cs : List Case) (default bits : ℕ) → (case_target cs default bits ≡ default) ⊎ (1 ≤ times (case_target cs default bits) (map (λ c. c.target) cs))
 case_among [] default bits = inl refl
@@ -44,8 +44,8 @@ by_value_leads w g v target e = by (bits_of w v) e
     by (Some n) h = (n, cc h)
     by None h = absurd (cc h)
 
--- a terminator leads to one of its targets
-pub exit_among : (value : Operand → Value) (t : Terminator) (target : ℕ) → exit_of value t ≡ Leads' target → 1 ≤ times target (targets t)
+-- a terminator leads to one of its successors
+pub exit_among : (value : Operand → Value) (t : Terminator) (target : ℕ) → exit_of value t ≡ Leads' target → 1 ≤ times target (successors t)
 exit_among value (Return argument) target e = absurd (cc e)
 exit_among value (Jump t) target e = here target t [] (cc e)
 exit_among value (Branch c t f) target e =

@@ -10,7 +10,7 @@ use Rattle.ir_tree.specs.declared.operand.Reg.{Reg}
 use Rattle.ir_tree.specs.declared.operand.Reg.TheVariants.{Int, Ptr}
 use Rattle.ir_tree.specs.declared.operand.Symbol.{Symbol}
 use Rattle.ir_meaning.specs.Bytes.{bits_stored, fragments, number_bytes, pointer_bytes, stored_bytes}
-use Rattle.ir_meaning.specs.Frame.{AFunction, AHost, AVariable, Kind, Missing, named, value_of}
+use Rattle.ir_meaning.specs.Frame.{AFunction, AHost, AVariable, SymbolKind, Missing, named, value_of}
 use Rattle.ir_meaning.specs.Memory.{Lives, Memory}
 use Rattle.ir_meaning.specs.Operate.{bits_of}
 use Rattle.ir_meaning.specs.declared.value.Base.{Base}
@@ -112,7 +112,7 @@ opening_inside : (n : ℕ) (value : Operand → Value) → AllInside n value →
 opening_inside n value h [] = tt
 opening_inside n value h (g ∷ gs) = storage_inside n value h (defined 0 g) (opening_from value gs) (opening_inside n value h gs)
 
-kind_inside : (n : ℕ) (kind : Kind) (s : Symbol) (offset : ℕ) → ((number : ℕ) → kind ≡ AVariable number → number < n) → ValueIsInside n (named kind s offset)
+kind_inside : (n : ℕ) (kind : SymbolKind) (s : Symbol) (offset : ℕ) → ((number : ℕ) → kind ≡ AVariable number → number < n) → ValueIsInside n (named kind s offset)
 kind_inside n (AFunction params result) s offset h = tt
 kind_inside n (AVariable number) s offset h = h number refl
 kind_inside n (AHost host) s offset h = tt

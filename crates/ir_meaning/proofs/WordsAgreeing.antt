@@ -7,15 +7,15 @@ use Rattle.ir_tree.specs.declared.instr.CastOp.TheVariants.{Sext, Trunc, Zext}
 use Rattle.ir_tree.specs.declared.instr.Flags.{Flags}
 use Rattle.ir_meaning.specs.Operate.{Is, Never, binary_bits, bits_of, cast_bits, compared_bits, number_or_poison}
 use Rattle.ir_meaning.specs.Arithmetic.{arithmetic, breaks, division_cause, is_division, may_break}
-use Rattle.ir_meaning.specs.declared.fault.Cause.TheVariants as cause
+use Rattle.ir_tree.specs.declared.cause.Cause.TheVariants as cause
 use Rattle.ir_meaning.specs.declared.value.Value.TheVariants.{Number}
 use Rattle.ir_meaning.specs.declared.value.Value.TheVariants as value
 use Rattle.lto_bits.specs.Operation.{arithmetic as word_arithmetic, binary_of, cause_of, value_or_poison}
 use Rattle.lto_bits.specs.declared.answer.Answer.{Answer as WordAnswer}
 use Rattle.lto_bits.specs.declared.answer.Answer.TheVariants.{Undefined}
-use Rattle.lto_bits.specs.declared.answer.Cause.{Cause as WordCause}
+use Rattle.lto_bits.specs.declared.answer.DivisionCause.{DivisionCause as WordCause}
 use Rattle.lto_bits.specs.declared.operator.Flags.{Flags as WordFlags}
-use Rattle.lto_bits.specs.declared.answer.Cause.TheVariants.{DivisionByZero, DivisionOverflow}
+use Rattle.lto_bits.specs.declared.answer.DivisionCause.TheVariants.{DivisionByZero, DivisionOverflow}
 use Rattle.ir_meaning.specs.WordsAgree.{OperationsAgree, poison_quotient}
 use Rattle.ir_meaning.specs.Operators.{word_flags, word_op}
 use Rattle.ir_meaning.specs.Words.{meant, meant_cause}

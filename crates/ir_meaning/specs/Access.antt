@@ -4,8 +4,8 @@ use Rattle.ir_tree.specs.declared.operand.Reg.{Reg}
 use Rattle.ir_meaning.specs.Bytes.{read, reg_size, stored_bytes}
 use Rattle.ir_meaning.specs.Memory.{Memory, MemoryBlock}
 use Rattle.ir_meaning.specs.Operate.{Answer, Never}
-use Rattle.ir_meaning.specs.declared.fault.Cause.{Cause}
-use Rattle.ir_meaning.specs.declared.fault.Cause.TheVariants.{BadPointer, Misaligned, OutOfBounds, StoreToConstant}
+use Rattle.ir_tree.specs.declared.cause.Cause.{Cause}
+use Rattle.ir_tree.specs.declared.cause.Cause.TheVariants.{BadPointer, Misaligned, OutOfBounds, StoreToConstant}
 use Rattle.ir_meaning.specs.declared.value.Base.TheVariants.{Cell}
 use Rattle.ir_meaning.specs.declared.value.Byte.{Byte}
 use Rattle.ir_meaning.specs.declared.value.Value.{Value}

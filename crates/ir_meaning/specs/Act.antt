@@ -18,8 +18,8 @@ use Rattle.ir_meaning.specs.Frame.{Frame, Locals, Signature, bind, value_of}
 use Rattle.ir_meaning.specs.Memory.{Memory, kill}
 use Rattle.ir_meaning.specs.Operate.{bits_of}
 use Rattle.ir_meaning.specs.declared.event.Event.{Event}
-use Rattle.ir_meaning.specs.declared.fault.Cause.{Cause}
-use Rattle.ir_meaning.specs.declared.fault.Cause.TheVariants.{BranchOnPoison, UnreachableReached}
+use Rattle.ir_tree.specs.declared.cause.Cause.{Cause}
+use Rattle.ir_tree.specs.declared.cause.Cause.TheVariants.{BranchOnPoison, UnreachableReached}
 use Rattle.ir_meaning.specs.declared.value.Value.{Value}
 use Rattle.ir_meaning.specs.declared.value.Value.TheVariants.{Poison}
 

@@ -10,8 +10,8 @@ use Rattle.lto_bits.specs.Cast.{narrowed, widened}
 use Rattle.lto_bits.specs.Comparison.{compared as word_compared}
 use Rattle.lto_bits.specs.Operation.{arithmetic as word_arithmetic, breaks as word_breaks, is_division as is_word_division, may_break as may_word_break}
 use Rattle.ir_meaning.specs.Operators.{word_flags, word_op, word_predicate}
-use Rattle.ir_meaning.specs.declared.fault.Cause.{Cause}
-use Rattle.ir_meaning.specs.declared.fault.Cause.TheVariants.{DivisionByZero, DivisionOverflow}
+use Rattle.ir_tree.specs.declared.cause.Cause.{Cause}
+use Rattle.ir_tree.specs.declared.cause.Cause.TheVariants.{DivisionByZero, DivisionOverflow}
 
 -- the number that an operation gives where it is defined; none is poison
 abbrev pub arithmetic : BinaryOp → Flags → ℕ → ℕ → ℕ → Option ℕ

@@ -20,13 +20,13 @@ use Rattle.ir_tree.specs.declared.operand.Reg.{Reg}
 use Rattle.ir_tree.specs.declared.operand.Reg.TheVariants.{Int, Ptr}
 use Rattle.ir_tree.specs.declared.operand.Symbol.{Symbol}
 use Rattle.ir_meaning.specs.Fault.{Fault, Undefined, Uninit}
-use Rattle.ir_meaning.specs.Frame.{AFunction, AHost, AVariable, GetChar, Kind, Missing, PutChar}
+use Rattle.ir_meaning.specs.Frame.{AFunction, AHost, AVariable, GetChar, SymbolKind, Missing, PutChar}
 use Rattle.ir_meaning.specs.Memory.{MemoryBlock}
 use Rattle.ir_meaning.specs.Program.{Program, State}
 use Rattle.ir_meaning.specs.Run.{Failed, Ran, Returned, Running, run, start}
 use Rattle.ir_tree.specs.Symbols.{symbol_eq}
 use Rattle.ir_meaning.specs.declared.event.Event.TheVariants.{ReadByte, ReadEnd, Wrote}
-use Rattle.ir_meaning.specs.declared.fault.Cause.TheVariants.{BadPointer, BranchOnPoison, CallOfAnotherType, CallOfNoFunction, DivisionByZero, DivisionOverflow, Misaligned, OutOfBounds, PoisonArgument, PoisonDivisor, StoreToConstant, UnreachableReached}
+use Rattle.ir_tree.specs.declared.cause.Cause.TheVariants.{BadPointer, BranchOnPoison, CallOfAnotherType, CallOfNoFunction, DivisionByZero, DivisionOverflow, Misaligned, OutOfBounds, PoisonArgument, PoisonDivisor, StoreToConstant, UnreachableReached}
 use Rattle.ir_meaning.specs.declared.value.Byte.TheVariants.{Plain}
 use Rattle.ir_meaning.specs.declared.value.Value.{Value}
 use Rattle.ir_meaning.specs.declared.value.Value.TheVariants.{Number, Poison}
@@ -116,13 +116,13 @@ abbrev pub regs_in : List Param → List Reg
 regs_in [] = []
 regs_in (p ∷ ps) = p.reg ∷ regs_in ps
 
-abbrev pub other_kind : Symbol → Kind
+abbrev pub other_kind : Symbol → SymbolKind
 other_kind s =
     if symbol_eq s sym_putchar then AHost PutChar
     else (if symbol_eq s sym_getchar then AHost GetChar
     else (if symbol_eq s sym_k then AVariable 0 else Missing))
 
-abbrev pub kind_in : List Function → Symbol → Kind
+abbrev pub kind_in : List Function → Symbol → SymbolKind
 kind_in [] s = other_kind s
 kind_in (f ∷ fs) s = if symbol_eq f.symbol s then AFunction (regs_in f.params) f.result else kind_in fs s
 

@@ -16,8 +16,8 @@ use Rattle.ir_meaning.specs.Bytes.{read, stored_bytes}
 use Rattle.ir_meaning.specs.Memory.{Memory, MemoryBlock, dead, fresh}
 use Rattle.ir_meaning.specs.Operate.{Answer, Is, Never, Unwritten, binary, bit, cast, compared, frozen, selected}
 use Rattle.ir_meaning.specs.Pointers.{compared_pointers}
-use Rattle.ir_meaning.specs.declared.fault.Cause.{Cause}
-use Rattle.ir_meaning.specs.declared.fault.Cause.TheVariants.{DivisionByZero, DivisionOverflow, PoisonDivisor}
+use Rattle.ir_tree.specs.declared.cause.Cause.{Cause}
+use Rattle.ir_tree.specs.declared.cause.Cause.TheVariants.{DivisionByZero, DivisionOverflow, PoisonDivisor}
 use Rattle.ir_meaning.specs.declared.value.Base.TheVariants.{Cell, Nowhere}
 use Rattle.ir_meaning.specs.declared.value.Byte.{Byte}
 use Rattle.ir_meaning.specs.declared.value.Byte.TheVariants.{Plain, Spoilt, Unset}
@@ -179,38 +179,38 @@ abbrev pub half_dead : Memory
 half_dead = block_of_size 4 ∷ dead (block_of_size 4) ∷ []
 
 -- the comparison is settled, or gives the free choice
-abbrev pub Settles : Memory → Predicate → Value → Value → Bool → Type 0
-Settles memory p v u answer = (choice : ℕ) → compared_pointers memory p v u choice ≡ bit answer
+abbrev pub Compares : Memory → Predicate → Value → Value → Bool → Type 0
+Compares memory p v u answer = (choice : ℕ) → compared_pointers memory p v u choice ≡ bit answer
 
 abbrev pub IsFree : Memory → Predicate → Value → Value → Type 0
 IsFree memory p v u = (choice : ℕ) → compared_pointers memory p v u choice ≡ Number (choice % 2)
 
 pub record PointerComparisons : Type 0 where
-  pub one_block : Settles live_pair Eq (Pointer (Cell 0) 1) (Pointer (Cell 0) 1) true
-  pub one_dead_block : Settles half_dead Ne (Pointer (Cell 1) 1) (Pointer (Cell 1) 2) true
-  pub two_live_blocks : Settles live_pair Eq (Pointer (Cell 0) 0) (Pointer (Cell 1) 3) false
+  pub one_block : Compares live_pair Eq (Pointer (Cell 0) 1) (Pointer (Cell 0) 1) true
+  pub one_dead_block : Compares half_dead Ne (Pointer (Cell 1) 1) (Pointer (Cell 1) 2) true
+  pub two_live_blocks : Compares live_pair Eq (Pointer (Cell 0) 0) (Pointer (Cell 1) 3) false
   pub end_of_a_block : IsFree live_pair Eq (Pointer (Cell 0) 4) (Pointer (Cell 1) 0)
   pub a_dead_block : IsFree half_dead Eq (Pointer (Cell 0) 0) (Pointer (Cell 1) 0)
-  pub null_and_a_block : Settles live_pair Eq (Pointer Nowhere 0) (Pointer (Cell 1) 4) false
-  pub order_in_a_block : Settles live_pair Ult (Pointer (Cell 0) 1) (Pointer (Cell 0) 4) true
+  pub null_and_a_block : Compares live_pair Eq (Pointer Nowhere 0) (Pointer (Cell 1) 4) false
+  pub order_in_a_block : Compares live_pair Ult (Pointer (Cell 0) 1) (Pointer (Cell 0) 4) true
   pub order_of_two : IsFree live_pair Ult (Pointer (Cell 0) 1) (Pointer (Cell 1) 4)
 
 -- what a load of a type gives of the bytes that a store of another left
-abbrev pub Reads : Reg → List Byte → Answer → Type 0
-Reads reg bytes answer = read reg bytes ≡ answer
+abbrev pub LoadsAs : Reg → List Byte → Answer → Type 0
+LoadsAs reg bytes answer = read reg bytes ≡ answer
 
 pub record Loads : Type 0 where
-  pub little_endian : Reads (Int 16) (Plain 1 ∷ Plain 2 ∷ []) (Is (Number 513))
-  pub unset_before_poison : Reads (Int 16) (Spoilt ∷ Unset ∷ []) Unwritten
-  pub poison_byte : Reads (Int 16) (Spoilt ∷ Plain 2 ∷ []) (Is Poison)
-  pub null_is_zero : Reads (Int 64) (stored_bytes Ptr (Pointer Nowhere 0)) (Is (Number 0))
-  pub zero_is_null : Reads Ptr (stored_bytes (Int 64) (Number 0)) (Is (Pointer Nowhere 0))
-  pub pointer_again : Reads Ptr (stored_bytes Ptr (Pointer (Cell 3) 9)) (Is (Pointer (Cell 3) 9))
-  pub pointer_as_number : Reads (Int 64) (stored_bytes Ptr (Pointer (Cell 3) 9)) (Is Poison)
-  pub number_as_pointer : Reads Ptr (stored_bytes (Int 64) (Number 1)) (Is Poison)
-  pub fragments_apart : Reads Ptr (Plain 0 ∷ drop 1 (stored_bytes Ptr (Pointer (Cell 3) 9))) (Is Poison)
-  pub byte_of_a_pointer : Reads (Int 8) (take 1 (stored_bytes Ptr (Pointer (Cell 3) 9))) (Is Poison)
-  pub poison_again : Reads (Int 32) (stored_bytes (Int 32) Poison) (Is Poison)
+  pub little_endian : LoadsAs (Int 16) (Plain 1 ∷ Plain 2 ∷ []) (Is (Number 513))
+  pub unset_before_poison : LoadsAs (Int 16) (Spoilt ∷ Unset ∷ []) Unwritten
+  pub poison_byte : LoadsAs (Int 16) (Spoilt ∷ Plain 2 ∷ []) (Is Poison)
+  pub null_is_zero : LoadsAs (Int 64) (stored_bytes Ptr (Pointer Nowhere 0)) (Is (Number 0))
+  pub zero_is_null : LoadsAs Ptr (stored_bytes (Int 64) (Number 0)) (Is (Pointer Nowhere 0))
+  pub pointer_again : LoadsAs Ptr (stored_bytes Ptr (Pointer (Cell 3) 9)) (Is (Pointer (Cell 3) 9))
+  pub pointer_as_number : LoadsAs (Int 64) (stored_bytes Ptr (Pointer (Cell 3) 9)) (Is Poison)
+  pub number_as_pointer : LoadsAs Ptr (stored_bytes (Int 64) (Number 1)) (Is Poison)
+  pub fragments_apart : LoadsAs Ptr (Plain 0 ∷ drop 1 (stored_bytes Ptr (Pointer (Cell 3) 9))) (Is Poison)
+  pub byte_of_a_pointer : LoadsAs (Int 8) (take 1 (stored_bytes Ptr (Pointer (Cell 3) 9))) (Is Poison)
+  pub poison_again : LoadsAs (Int 32) (stored_bytes (Int 32) Poison) (Is Poison)
 
 pub record ExampleOperations : Type 0 where
   pub arithmetic : Arithmetic

@@ -16,14 +16,14 @@ use Rattle.ir_tree.specs.declared.operand.Symbol.{Symbol}
 use Rattle.ir_meaning.specs.Access.{load, store, store_cause}
 use Rattle.ir_meaning.specs.Address.{address_of}
 use Rattle.ir_meaning.specs.Fault.{Fault, Undefined, Uninit}
-use Rattle.ir_meaning.specs.Frame.{AFunction, AHost, AVariable, GetChar, Host, Kind, Missing, PutChar, Signature, indices_of, regs_of, values_of}
+use Rattle.ir_meaning.specs.Frame.{AFunction, AHost, AVariable, GetChar, Host, SymbolKind, Missing, PutChar, Signature, indices_of, regs_of, values_of}
 use Rattle.ir_meaning.specs.Memory.{Memory, fresh}
 use Rattle.ir_meaning.specs.Operate.{Answer, Is, Never, Unwritten, binary, bits_of, cast, compared, frozen, selected}
 use Rattle.ir_meaning.specs.Pointers.{compared_pointers}
 use Rattle.ir_meaning.specs.declared.event.Event.{Event}
 use Rattle.ir_meaning.specs.declared.event.Event.TheVariants.{ReadByte, ReadEnd, Wrote}
-use Rattle.ir_meaning.specs.declared.fault.Cause.{Cause}
-use Rattle.ir_meaning.specs.declared.fault.Cause.TheVariants.{CallOfAnotherType, CallOfNoFunction, PoisonArgument}
+use Rattle.ir_tree.specs.declared.cause.Cause.{Cause}
+use Rattle.ir_tree.specs.declared.cause.Cause.TheVariants.{CallOfAnotherType, CallOfNoFunction, PoisonArgument}
 use Rattle.ir_meaning.specs.declared.value.Base.TheVariants.{Cell, Code}
 use Rattle.ir_meaning.specs.declared.value.Value.{Value}
 use Rattle.ir_meaning.specs.declared.value.Value.TheVariants.{Number, Pointer, Poison}
@@ -115,7 +115,7 @@ host_params PutChar = Int 32 ∷ []
 host_params GetChar = []
 
 -- a call of a symbol of this kind
-abbrev pub calls_kind : Kind → Symbol → List ℕ → Memory → ℕ → Option Reg → List Reg → List Value → Effect
+abbrev pub calls_kind : SymbolKind → Symbol → List ℕ → Memory → ℕ → Option Reg → List Reg → List Value → Effect
 calls_kind (AFunction params result) s input memory place result' regs values =
     if regs_eq params regs && result_eq result result' then Asked s values else Broke (Undefined CallOfAnotherType)
 calls_kind (AHost host) s input memory place result' regs values =

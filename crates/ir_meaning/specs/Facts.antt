@@ -21,7 +21,7 @@ use Rattle.ir_meaning.specs.Frame.{AVariable, Locals, Signature, value_of}
 use Rattle.ir_meaning.specs.Memory.{Lives, Memory}
 use Rattle.ir_meaning.specs.declared.value.Value.{Value}
 use Rattle.ir_meaning.specs.declared.value.Value.TheVariants.{Poison}
-use Rattle.ir_meaning.specs.Needed.{EndReads, IsKept, Reads}
+use Rattle.ir_meaning.specs.Needed.{EndReads, IsKept, UsesKept}
 
 -- the facts "x to v" that hold at a point
 abbrev pub Facts : Type 0
@@ -151,7 +151,7 @@ LineRule candidate loose (Some y) i = RuleFor (loose y) i (candidate y) × IsOth
 abbrev pub LinesRight : (ℕ → Option Operand) → (ℕ → Bool) → Facts → List Line → Type 0
 LinesRight candidate loose fs [] = Unit {0}
 LinesRight candidate loose fs (l ∷ ls) =
-    LineRule candidate loose l.local l.instr × Reads (λ x. not (loose x)) (with_operands (replaced fs) l.instr) ×
+    LineRule candidate loose l.local l.instr × UsesKept (λ x. not (loose x)) (with_operands (replaced fs) l.instr) ×
     LinesRight candidate loose (behind_local candidate l.local fs) ls
 
 abbrev pub Has : Facts → ℕ → Operand → Type 0

@@ -35,15 +35,15 @@ pub data Host : Type 0 where
   GetChar : Host
 
 -- what a symbol is
-pub data Kind : Type 0 where
-  AFunction : (params : List Reg) (result : Option Reg) → Kind
-  AVariable : (number : ℕ) → Kind
-  AHost : (host : Host) → Kind
-  Missing : Kind
+pub data SymbolKind : Type 0 where
+  AFunction : (params : List Reg) (result : Option Reg) → SymbolKind
+  AVariable : (number : ℕ) → SymbolKind
+  AHost : (host : Host) → SymbolKind
+  Missing : SymbolKind
 
 -- what all bodies of a program rely on: what each symbol is
 pub record Signature : Type 0 where
-  pub kind : Symbol → Kind
+  pub kind : Symbol → SymbolKind
 
 abbrev pub look_up : Locals → ℕ → Value
 look_up [] x = Poison
@@ -55,7 +55,7 @@ bind (Some x) (Some v) locals = (x, v) ∷ locals
 bind _ _ locals = locals
 
 -- the address of a symbol, with an offset
-abbrev pub named : Kind → Symbol → ℕ → Value
+abbrev pub named : SymbolKind → Symbol → ℕ → Value
 named (AFunction params result) s offset = Pointer (Code s) offset
 named (AVariable number) s offset = Pointer (Cell number) offset
 named (AHost host) s offset = Pointer (Code s) offset

@@ -20,7 +20,7 @@ use Rattle.ir_meaning.specs.Act.{find_block}
 use Rattle.ir_meaning.specs.Execute.{regs_eq, result_eq}
 use Rattle.ir_meaning.specs.Frame.{AFunction, regs_of}
 use Rattle.ir_meaning.specs.Program.{Program}
-use Rattle.ir_meaning.specs.Needed.{EndReads, IsKept, Reads}
+use Rattle.ir_meaning.specs.Needed.{EndReads, IsKept, UsesKept}
 
 -- a call, and how its callee is moved into the caller
 pub record Site : Type 0 where
@@ -167,7 +167,7 @@ PhisBelow n (p ∷ ps) = EdgesBelow n p.incoming × PhisBelow n ps
 
 abbrev pub LinesBelow : ℕ → List Line → Type 0
 LinesBelow n [] = Unit {0}
-LinesBelow n (l ∷ ls) = Reads (below n) l.instr × LinesBelow n ls
+LinesBelow n (l ∷ ls) = UsesKept (below n) l.instr × LinesBelow n ls
 
 pub record BlockBelow (n : ℕ) (b : Block) : Type 0 where
   pub number : b.number < n

@@ -12,7 +12,7 @@ use Rattle.ir_tree.specs.declared.operand.Reg.TheVariants.{Int}
 use Rattle.ir_tree.specs.declared.operand.Symbol.{Symbol}
 use Rattle.ir_meaning.specs.Bytes.{number_bytes}
 use Rattle.ir_meaning.specs.ExampleRuns.{code_in, other_kind, ran_from, regs_in, sym_f}
-use Rattle.ir_meaning.specs.Frame.{AFunction, AVariable, Kind}
+use Rattle.ir_meaning.specs.Frame.{AFunction, AVariable, SymbolKind}
 use Rattle.ir_meaning.specs.Memory.{Memory, MemoryBlock}
 use Rattle.ir_meaning.specs.Program.{Program}
 use Rattle.ir_meaning.specs.Run.{Ran, Returned, start}
@@ -62,11 +62,11 @@ numbers size align writable ns = record {
   writable = writable;
 }
 
-abbrev pub variable_kind : ℕ → List (Symbol × MemoryBlock) → Symbol → Kind
+abbrev pub variable_kind : ℕ → List (Symbol × MemoryBlock) → Symbol → SymbolKind
 variable_kind n [] s = other_kind s
 variable_kind n (v ∷ vs) s = if symbol_eq v.0 s then AVariable n else variable_kind (n + 1) vs s
 
-abbrev pub symbol_kind : List Function → List (Symbol × MemoryBlock) → Symbol → Kind
+abbrev pub symbol_kind : List Function → List (Symbol × MemoryBlock) → Symbol → SymbolKind
 symbol_kind [] vs s = variable_kind 0 vs s
 symbol_kind (f ∷ fs) vs s = if symbol_eq f.symbol s then AFunction (regs_in f.params) f.result else symbol_kind fs vs s
 
@@ -90,5 +90,5 @@ pub record Shows (ran : Ran) (bytes : List ℕ) (n : ℕ) : Type 0 where
   pub answer : ran.ending ≡ Returned (Some (Number n))
 
 -- @f without arguments writes these bytes on this input, and returns this number: by choices 0, in at most 300 steps
-abbrev pub Gives : Source → List ℕ → List ℕ → ℕ → Type 0
-Gives t input bytes n = Shows (ran_from (program_from t) input 300 (start (program_from t) sym_f [])) bytes n
+abbrev pub Returns : Source → List ℕ → List ℕ → ℕ → Type 0
+Returns t input bytes n = Shows (ran_from (program_from t) input 300 (start (program_from t) sym_f [])) bytes n

@@ -23,18 +23,18 @@ AllKept keeps [] = Unit {0}
 AllKept keeps (a ∷ more) = IsKept keeps a.operand × AllKept keeps more
 
 -- an instruction reads no other locals
-abbrev pub Reads : (ℕ → Bool) → Instr → Type 0
-Reads keeps (Binary op f k l r) = IsKept keeps l × IsKept keeps r
-Reads keeps (Icmp p reg l r) = IsKept keeps l × IsKept keeps r
-Reads keeps (Cast op from o to) = IsKept keeps o
-Reads keeps (Select c t f) = IsKept keeps c × IsKept keeps t.operand × IsKept keeps f.operand
-Reads keeps (Freeze k o) = IsKept keeps o
-Reads keeps (Alloca shape align) = Unit {0}
-Reads keeps (Load reg o align) = IsKept keeps o
-Reads keeps (Store reg o d align) = IsKept keeps o × IsKept keeps d
-Reads keeps (Address inbounds shape o is) = IsKept keeps o × AllKept keeps is
-Reads keeps (Call result c args) = IsKept keeps c × AllKept keeps args
-Reads keeps (StrayPhi reg es) = Unit {0}
+abbrev pub UsesKept : (ℕ → Bool) → Instr → Type 0
+UsesKept keeps (Binary op f k l r) = IsKept keeps l × IsKept keeps r
+UsesKept keeps (Icmp p reg l r) = IsKept keeps l × IsKept keeps r
+UsesKept keeps (Cast op from o to) = IsKept keeps o
+UsesKept keeps (Select c t f) = IsKept keeps c × IsKept keeps t.operand × IsKept keeps f.operand
+UsesKept keeps (Freeze k o) = IsKept keeps o
+UsesKept keeps (Alloca shape align) = Unit {0}
+UsesKept keeps (Load reg o align) = IsKept keeps o
+UsesKept keeps (Store reg o d align) = IsKept keeps o × IsKept keeps d
+UsesKept keeps (Address inbounds shape o is) = IsKept keeps o × AllKept keeps is
+UsesKept keeps (Call result c args) = IsKept keeps c × AllKept keeps args
+UsesKept keeps (StrayPhi reg es) = Unit {0}
 
 -- the edges read no other locals
 abbrev pub EdgesKept : (ℕ → Bool) → List Incoming → Type 0
@@ -91,7 +91,7 @@ needed keeps f = record f { blocks = needed_blocks keeps f.blocks }
 -- what is needed reads only what is kept
 abbrev pub LinesClosed : (ℕ → Bool) → List Line → Type 0
 LinesClosed keeps [] = Unit {0}
-LinesClosed keeps (line ∷ rest) = (is_needed keeps line ≡ true → Reads keeps line.instr) × LinesClosed keeps rest
+LinesClosed keeps (line ∷ rest) = (is_needed keeps line ≡ true → UsesKept keeps line.instr) × LinesClosed keeps rest
 
 -- and each block has at most k instructions
 pub record BlockClosed (keeps : ℕ → Bool) (k : ℕ) (b : Block) : Type 0 where

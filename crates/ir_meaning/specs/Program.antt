@@ -9,7 +9,7 @@ use Rattle.ir_meaning.specs.Fault.{Fault, Undefined}
 use Rattle.ir_meaning.specs.Frame.{Frame, Signature}
 use Rattle.ir_meaning.specs.Memory.{Memory}
 use Rattle.ir_meaning.specs.declared.event.Event.{Event}
-use Rattle.ir_meaning.specs.declared.fault.Cause.TheVariants.{CallOfNoFunction}
+use Rattle.ir_tree.specs.declared.cause.Cause.TheVariants.{CallOfNoFunction}
 use Rattle.ir_meaning.specs.declared.fault.Place.{Place}
 use Rattle.ir_meaning.specs.declared.value.Value.{Value}
 

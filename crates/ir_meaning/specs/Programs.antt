@@ -14,7 +14,7 @@ use Rattle.ir_tree.specs.declared.module.GlobalValue.TheVariants as global
 use Rattle.ir_tree.specs.declared.operand.Operand.{Operand}
 use Rattle.ir_tree.specs.declared.operand.Reg.{Reg}
 use Rattle.ir_tree.specs.declared.operand.Symbol.{Symbol}
-use Rattle.ir_meaning.specs.Frame.{AFunction, AHost, AVariable, GetChar, Kind, Missing, PutChar, Signature, value_of}
+use Rattle.ir_meaning.specs.Frame.{AFunction, AHost, AVariable, GetChar, SymbolKind, Missing, PutChar, Signature, value_of}
 use Rattle.ir_meaning.specs.Memory.{Memory, MemoryBlock}
 use Rattle.ir_meaning.specs.Program.{Program}
 use Rattle.ir_tree.specs.Symbols.{symbol_eq}
@@ -83,16 +83,16 @@ abbrev pub shared : List ℕ → Symbol
 shared name = record { home = None; name = name }
 
 -- a function of the outside, by its name
-abbrev pub host_of : List ℕ → Kind
+abbrev pub host_of : List ℕ → SymbolKind
 host_of name = if bytes_eq name (codes "putchar") then AHost PutChar else (if bytes_eq name (codes "getchar") then AHost GetChar else Missing)
 
 -- a symbol that is local to a module is nobody's outside
-abbrev pub undefined_kind : Option ℕ → List ℕ → Kind
+abbrev pub undefined_kind : Option ℕ → List ℕ → SymbolKind
 undefined_kind None name = host_of name
 undefined_kind (Some k) name = Missing
 
 -- what a symbol is that is defined so; one that isn't is a function of the outside only where it is declared
-abbrev pub kind_of : Bool → Symbol → Option Definition → Kind
+abbrev pub kind_of : Bool → Symbol → Option Definition → SymbolKind
 kind_of declared s None = if declared then undefined_kind s.home s.name else Missing
 kind_of declared s (Some (Body f)) = AFunction (regs_of f.params) f.result
 kind_of declared s (Some (Storage n v init)) = AVariable n

@@ -15,7 +15,7 @@ use Rattle.ir_tree.specs.declared.operand.Reg.{Reg}
 use Rattle.ir_meaning.specs.Act.{find_block}
 use Rattle.ir_meaning.specs.Bytes.{reg_size}
 use Rattle.ir_meaning.specs.Facts.{IsTarget, is_local, is_phi, phi_operand}
-use Rattle.ir_meaning.specs.Needed.{EndReads, IsKept, PhisKept, Reads}
+use Rattle.ir_meaning.specs.Needed.{EndReads, IsKept, PhisKept, UsesKept}
 use Rattle.ir_meaning.specs.Rules.{IsStorable}
 
 -- the value of each slot, as an operand
@@ -92,7 +92,7 @@ LineRight t c (Makes x) line = (t.slot x ≡ true) × (line.local ≡ Some x) ×
 LineRight t c (Writes x o) line = (t.slot x ≡ true) × IsKept t.keeps o × IsStorable (t.reg x) × (align : ℕ) ×
     (line.instr ≡ Store (t.reg x) o (Local x) align)
 LineRight t c (Fetches x) line = (t.slot x ≡ true) × LocalFree t c line.local × (align : ℕ) × (line.instr ≡ Load (t.reg x) (Local x) align)
-LineRight t c Other line = LocalFree t c line.local × Reads t.keeps line.instr
+LineRight t c Other line = LocalFree t c line.local × UsesKept t.keeps line.instr
 
 abbrev pub LinesRight : Plan → Current → List Line → Type 0
 LinesRight t c [] = Unit {0}

@@ -14,7 +14,7 @@ use Rattle.ir_tree.specs.declared.operand.Operand.{Operand}
 use Rattle.ir_tree.specs.declared.operand.Operand.TheVariants.{Symbol as Named}
 use Rattle.ir_tree.specs.declared.operand.Symbol.{Symbol}
 use Rattle.ir_tree.specs.Edited.{argument_edited, incoming_edited, with_operands}
-use Rattle.ir_meaning.specs.Frame.{AFunction, AHost, AVariable, Kind, Missing}
+use Rattle.ir_meaning.specs.Frame.{AFunction, AHost, AVariable, SymbolKind, Missing}
 use Rattle.ir_meaning.specs.Memory.{MemoryBlock}
 use Rattle.ir_meaning.specs.Near.{IsBetter}
 use Rattle.ir_meaning.specs.Program.{Program, variables}
@@ -86,7 +86,7 @@ bytes_under t (b ∷ bs) = byte_under t b ∷ bytes_under t bs
 abbrev pub cells_under : Naming → MemoryBlock → MemoryBlock
 cells_under t b = record { size = b.size; align = b.align; bytes = bytes_under t b.bytes; live = b.live; writable = b.writable }
 
-abbrev pub kind_under : Naming → Kind → Kind
+abbrev pub kind_under : Naming → SymbolKind → SymbolKind
 kind_under t (AFunction params result) = AFunction params result
 kind_under t (AVariable number) = AVariable (cell_under t number)
 kind_under t (AHost host) = AHost host

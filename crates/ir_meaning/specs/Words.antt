@@ -1,14 +1,14 @@
 -- What the answers and causes of the operations on words say of instructions.
 use Rattle.std.specs.Prelude.{Bool, Option, Some, None}
 use Rattle.ir_meaning.specs.Operate.{Answer, Is, Never, bit}
-use Rattle.ir_meaning.specs.declared.fault.Cause.{Cause}
-use Rattle.ir_meaning.specs.declared.fault.Cause.TheVariants as cause
+use Rattle.ir_tree.specs.declared.cause.Cause.{Cause}
+use Rattle.ir_tree.specs.declared.cause.Cause.TheVariants as cause
 use Rattle.ir_meaning.specs.declared.value.Value.{Value}
 use Rattle.ir_meaning.specs.declared.value.Value.TheVariants as value
 use Rattle.lto_bits.specs.declared.answer.Answer.{Answer as WordAnswer}
 use Rattle.lto_bits.specs.declared.answer.Answer.TheVariants.{Poison, Undefined, Value as OfValue}
-use Rattle.lto_bits.specs.declared.answer.Cause.{Cause as WordCause}
-use Rattle.lto_bits.specs.declared.answer.Cause.TheVariants.{DivisionByZero, DivisionOverflow, PoisonDivisor}
+use Rattle.lto_bits.specs.declared.answer.DivisionCause.{DivisionCause as WordCause}
+use Rattle.lto_bits.specs.declared.answer.DivisionCause.TheVariants.{DivisionByZero, DivisionOverflow, PoisonDivisor}
 
 abbrev pub meant_cause : WordCause → Cause
 meant_cause DivisionByZero = cause.DivisionByZero

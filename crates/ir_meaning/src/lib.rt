@@ -43,9 +43,9 @@ pub use defined::{defined_blocks, defined_init, symbol_of};
 pub use edges::entries_are_edges;
 pub use event::Event;
 pub use examples::{example_operations, example_runs, native_runs};
-pub use fault::{Cause, Place};
+pub use fault::Place;
 pub use functions::{composition, larger_bounds, passes_in_a_row, reflexivity};
-pub use lto_bits::{Answer, Cause as DivisionCause};
+pub use lto_bits::{Answer, DivisionCause};
 pub use naming::{chain_under, emitted_refines, kept_refines, linked_refines, renamed_refines};
 pub use operate::{binary, bits_of, cast, compare};
 pub use passes::{

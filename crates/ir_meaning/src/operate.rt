@@ -11,7 +11,7 @@ ghost use Rattle.ir_meaning.specs.Words.{bit_or_poison, meant};
 use crate::operators::{condition, marks, operation};
 use crate::value::Value;
 use ir_tree::{BinaryOp, CastOp, Flags, Predicate};
-use lto_bits::{Answer, Cause, narrow, widen};
+use lto_bits::{Answer, DivisionCause, narrow, widen};
 
 /// The number of `width` bits that a value is: None where it is poison, a pointer, or a number of more
 /// bits (LangRef, "Poison Values").
@@ -90,7 +90,7 @@ pub fn binary(
         }
         (_, None) => {
             if divides(op) {
-                Answer::Undefined(Cause::PoisonDivisor)
+                Answer::Undefined(DivisionCause::PoisonDivisor)
             } else {
                 Answer::Poison
             }

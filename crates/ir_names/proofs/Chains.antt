@@ -6,7 +6,7 @@ use Rattle.ir_read.specs.Shapes.{Written, int, pointer, array, structure, named}
 use Rattle.ir_names.specs.declared.fault.Fault.{Fault}
 use Rattle.ir_names.specs.declared.heads.Chain.{Chain}
 use Rattle.ir_names.specs.Heads.{IsChain, IsChainFrom, IsHead, AreHeads}
-use Rattle.ir_names.specs.Settled.{◌>>=◌}
+use Rattle.ir_names.specs.Resolving.{◌>>=◌}
 use Rattle.ir_names.specs.Types.{Types, or_unknown, entry_in, shape_in, shape_at, head_from, chased}
 
 -- a chain that leads somewhere does so if more names are allowed

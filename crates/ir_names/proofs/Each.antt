@@ -1,6 +1,6 @@
 -- A loop that makes one value of each.
 use Rattle.std.proofs.Common.{◌≡◌, ℕ, List, [], ◌∷◌, ◌++◌, Result, Ok, Err, refl, sym, ap, ◌∙◌, append_assoc, suc, ◌+◌, ◌<◌, length, drop, get_or, add-one, drop-cons}
-use Rattle.ir_names.specs.Settled.{each, ◌>>=◌}
+use Rattle.ir_names.specs.Resolving.{each, ◌>>=◌}
 
 -- what is left from k on begins with the item at k
 pub here : {A : Type 0} (xs : List A) (k : ℕ) (x : A) → k < length xs → x ≡ get_or xs k x → drop k xs ≡ x ∷ drop (k + 1) xs

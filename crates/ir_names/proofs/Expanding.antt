@@ -2,7 +2,7 @@
 use Rattle.std.proofs.Common.{◌≡◌, refl, ap, ◌∙◌, ℕ, suc, Bool, List, Ok}
 use Rattle.ir_read.specs.Shapes.{Written, array, structure, parts_of, list_of}
 use Rattle.ir_tree.specs.Forms as tree
-use Rattle.ir_names.specs.Settled.{each, ◌>>=◌}
+use Rattle.ir_names.specs.Resolving.{each, ◌>>=◌}
 use Rattle.ir_names.specs.Types.{Types, head_of, expand, opened, within, structure_of}
 
 module _ (n k : ℕ) (types : Types) (line : ℕ) (s h : Written) (level : n ≡ suc k) (head : head_of types s ≡ Ok h) where

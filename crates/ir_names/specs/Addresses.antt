@@ -6,7 +6,7 @@ use Rattle.ir_tree.specs.Forms.{Form, int, pointer, array, structure, Forms, no_
 use Rattle.ir_tree.specs.Layout.{size, place}
 use Rattle.ir_names.specs.declared.fault.Fault.{Fault}
 use Rattle.ir_names.specs.declared.fault.NameFault.TheVariants as kinds
-use Rattle.ir_names.specs.Settled.{◌>>=◌}
+use Rattle.ir_names.specs.Resolving.{◌>>=◌}
 use Rattle.ir_names.specs.Types.{Types, expanded}
 
 abbrev pub bad_index : ℕ → Fault

@@ -5,7 +5,7 @@ use Rattle.ir_read.specs.declared.raw.Case as raw_case
 use Rattle.ir_read.specs.declared.raw.Incoming as raw_incoming
 use Rattle.ir_read.specs.declared.raw.Instr as raw_instr
 use Rattle.ir_read.specs.declared.raw.Instr.TheVariants as ri
-use Rattle.ir_read.specs.declared.raw.Line as raw_line
+use Rattle.ir_read.specs.declared.raw.WrittenLine as raw_line
 use Rattle.ir_read.specs.declared.raw.Operand as raw_operand
 use Rattle.ir_read.specs.declared.raw.Operand.TheVariants as ro
 use Rattle.ir_read.specs.declared.raw.Terminator as raw_end
@@ -28,13 +28,13 @@ use Rattle.ir_tree.specs.Layout.{align}
 use Rattle.ir_names.specs.declared.fault.Fault.{Fault}
 use Rattle.ir_names.specs.declared.locals.Sort.TheVariants as sorts
 use Rattle.ir_names.specs.Addresses.{offset_behind}
-use Rattle.ir_names.specs.Locals.{Known, number_in}
+use Rattle.ir_names.specs.Locals.{LocalTable, number_in}
 use Rattle.ir_names.specs.Numbering.{is_defined}
-use Rattle.ir_names.specs.Settled.{◌>>=◌, each}
+use Rattle.ir_names.specs.Resolving.{◌>>=◌, each}
 use Rattle.ir_names.specs.Symbols.{symbol_of}
 use Rattle.ir_names.specs.Types.{Types, expanded, array_of}
 
-abbrev pub operand_in : Types → Known → raw_operand.Operand → Result Operand Fault
+abbrev pub operand_in : Types → LocalTable → raw_operand.Operand → Result Operand Fault
 operand_in types locals (ro.Local name) = number_in locals sorts.Value name >>= λ n. Ok (to.Local n)
 operand_in types locals (ro.Global name) = Ok (to.Symbol (symbol_of name) 0)
 operand_in types locals (ro.Number width bits) = Ok (to.Number width bits)
@@ -42,10 +42,10 @@ operand_in types locals ro.Null = Ok to.Null
 operand_in types locals (ro.Poison reg) = Ok (to.Poison reg)
 operand_in types locals (ro.Address steps) = offset_behind 0 types steps.levels >>= λ offset. Ok (to.Symbol (symbol_of steps.name) offset)
 
-abbrev pub argument_in : Types → Known → raw_argument.Argument → Result Argument Fault
+abbrev pub argument_in : Types → LocalTable → raw_argument.Argument → Result Argument Fault
 argument_in types locals a = operand_in types locals a.operand >>= λ o. Ok (record { reg = a.reg; operand = o })
 
-abbrev pub incoming_in : Types → Known → raw_incoming.Incoming → Result Incoming Fault
+abbrev pub incoming_in : Types → LocalTable → raw_incoming.Incoming → Result Incoming Fault
 incoming_in types locals i =
     operand_in types locals i.value >>= λ o. number_in locals sorts.Block i.from >>= λ b. Ok (record { from = b; value = o })
 
@@ -63,7 +63,7 @@ abbrev pub reg_align : Reg → ℕ
 reg_align (Int width) = width / 8
 reg_align Ptr = 8
 
-abbrev pub instr_in : Types → Known → raw_instr.Instr → Result Instr Fault
+abbrev pub instr_in : Types → LocalTable → raw_instr.Instr → Result Instr Fault
 instr_in types locals (ri.Binary op flags width left right) =
     operand_in types locals left >>= λ l. operand_in types locals right >>= λ r. Ok (ti.Binary op flags width l r)
 instr_in types locals (ri.Icmp predicate reg left right) =
@@ -85,26 +85,26 @@ instr_in types locals (ri.Call result callee arguments) =
 -- ---- blocks
 
 -- each line gets the next number where it defines a local
-abbrev pub local_at : ℕ → raw_line.Line → Option ℕ
+abbrev pub local_at : ℕ → raw_line.WrittenLine → Option ℕ
 local_at next l = if is_defined l then Some next else None
 
-abbrev pub behind_line : ℕ → raw_line.Line → ℕ
+abbrev pub behind_line : ℕ → raw_line.WrittenLine → ℕ
 behind_line next l = if is_defined l then next + 1 else next
 
-abbrev pub lines_in : Types → Known → ℕ → List raw_line.Line → Result (List Line) Fault
+abbrev pub lines_in : Types → LocalTable → ℕ → List raw_line.WrittenLine → Result (List Line) Fault
 lines_in types locals next [] = Ok []
 lines_in types locals next (l ∷ ls) =
     instr_in types locals l.instr >>= λ i. lines_in types locals (behind_line next l) ls >>= λ more. Ok (record { local = local_at next l; instr = i } ∷ more)
 
-abbrev pub behind_lines : ℕ → List raw_line.Line → ℕ
+abbrev pub behind_lines : ℕ → List raw_line.WrittenLine → ℕ
 behind_lines next [] = next
 behind_lines next (l ∷ ls) = behind_lines (behind_line next l) ls
 
-abbrev pub case_in : Known → raw_case.Case → Result Case Fault
+abbrev pub case_in : LocalTable → raw_case.Case → Result Case Fault
 case_in locals c =
     number_in locals sorts.Block c.target >>= λ b. Ok (record { reg = c.reg; width = c.width; bits = c.bits; target = b })
 
-abbrev pub end_in : Types → Known → raw_end.Terminator → Result Terminator Fault
+abbrev pub end_in : Types → LocalTable → raw_end.Terminator → Result Terminator Fault
 end_in types locals (re.Return None) = Ok (te.Return None)
 end_in types locals (re.Return (Some a)) = argument_in types locals a >>= λ v. Ok (te.Return (Some v))
 end_in types locals (re.Jump target) = number_in locals sorts.Block target >>= λ b. Ok (te.Jump b)

@@ -2,7 +2,7 @@
 use Rattle.std.specs.Prelude.{ℕ, Bool, ◌||◌, if◌then◌else◌, List, [], ◌∷◌, ◌++◌, drop}
 use Rattle.std.specs.List.{list_any}
 use Rattle.ir_lex.specs.Tok.{Tok}
-use Rattle.ir_read.specs.declared.raw.Head.{Head}
+use Rattle.ir_read.specs.declared.raw.FunctionHeader.{FunctionHeader}
 use Rattle.ir_read.specs.declared.raw.Item.{Item}
 use Rattle.ir_read.specs.declared.raw.Item.TheVariants as item
 use Rattle.ir_names.specs.declared.groups.Groups.{Groups}
@@ -40,8 +40,8 @@ groups_of items = with_groups no_groups items
 abbrev pub any_of : List (List ℕ) → List Tok → Bool
 any_of names named = list_any (λ t. has_name names (group_key t)) named
 
-abbrev pub is_noinline : Groups → Head → Bool
+abbrev pub is_noinline : Groups → FunctionHeader → Bool
 is_noinline groups head = head.noinline || any_of groups.noinline head.groups
 
-abbrev pub is_optnone : Groups → Head → Bool
+abbrev pub is_optnone : Groups → FunctionHeader → Bool
 is_optnone groups head = head.optnone || any_of groups.optnone head.groups

@@ -26,11 +26,11 @@ is_numeral (d ∷ ds) = list_all is_ascii_digit (d ∷ ds)
 -- the number that stands for a name; the reader refuses numbers past 2 ^ 32 - 1
 unfoldable pub number_of : Tok → Option ℕ
 number_of t =
-    let bare = stripped t.kind t.text in
+    let bare = stripped t.form t.text in
     if is_numeral bare then (if nat_lt (decimal_of bare) (2 ^ 32) then Some (decimal_of bare) else None) else None
 
 unfoldable pub key_of : Tok → Key
-key_of t = elim (number_of t) [ None ↦ spelled (content t.kind t.text) | Some n ↦ written n ]
+key_of t = elim (number_of t) [ None ↦ spelled (content t.form t.text) | Some n ↦ written n ]
 
 -- a key that a text can write: its number is below 2 ^ 32
 abbrev pub IsWritten : Key → Type 0

@@ -9,7 +9,7 @@ pub mod Locals
 pub mod LocalsViews
 pub mod Marks
 pub mod Numbering
-pub mod Settled
+pub mod Resolving
 pub mod Stages
 pub mod Symbols
 pub mod TypeNames

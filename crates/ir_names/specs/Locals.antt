@@ -7,14 +7,14 @@ use Rattle.ir_names.specs.declared.fault.NameFault.TheVariants.{Twice, Unknown}
 use Rattle.ir_names.specs.declared.locals.Sort.{Sort}
 use Rattle.ir_names.specs.declared.locals.Sort.TheVariants.{Value, Block}
 use Rattle.ir_names.specs.Keys.{Key, spelled, written, key_of, same_key}
-use Rattle.ir_names.specs.Settled.{◌>>=◌}
+use Rattle.ir_names.specs.Resolving.{◌>>=◌}
 
 -- the definitions so far in the order of the text, each with its sort, and the counter
-pub record Known : Type 0 where
+pub record LocalTable : Type 0 where
   pub definitions : List (Key × Sort)
   pub counter : ℕ
 
-abbrev pub none_known : Known
+abbrev pub none_known : LocalTable
 none_known = record { definitions = []; counter = 0 }
 
 -- the place of the first definition of the key
@@ -38,7 +38,7 @@ abbrev pub is_below : ℕ → Key → Bool
 is_below counter (spelled name) = false
 is_below counter (written n) = nat_lt n counter
 
-abbrev pub with_key : Known → Key → Sort → Known
+abbrev pub with_key : LocalTable → Key → Sort → LocalTable
 with_key known key sort = record { definitions = known.definitions ++ (key, sort) ∷ []; counter = counted known.counter key }
 
 abbrev pub twice : ℕ → Fault
@@ -48,16 +48,16 @@ abbrev pub unknown : ℕ → Fault
 unknown line = record { line = line; kind = Unknown }
 
 -- a name is defined once, and a written number is at least the counter
-abbrev pub with_definition : Known → ℕ → Key → Sort → Result Known Fault
+abbrev pub with_definition : LocalTable → ℕ → Key → Sort → Result LocalTable Fault
 with_definition known line key sort =
     if is_below known.counter key || stands known.definitions key then Err (twice line) else Ok (with_key known key sort)
 
 -- what has no name takes the counter
-abbrev pub with_name : Known → Option Tok → Sort → Result Known Fault
+abbrev pub with_name : LocalTable → Option Tok → Sort → Result LocalTable Fault
 with_name known None sort = Ok (with_key known (written known.counter) sort)
 with_name known (Some name) sort = with_definition known name.line (key_of name) sort
 
-abbrev pub with_all : Known → List (Option Tok × Sort) → Result Known Fault
+abbrev pub with_all : LocalTable → List (Option Tok × Sort) → Result LocalTable Fault
 with_all known [] = Ok known
 with_all known (d ∷ ds) = with_name known d.0 d.1 >>= λ k. with_all k ds
 
@@ -74,11 +74,11 @@ is_used_as sort None = false
 is_used_as sort (Some s) = same_sort sort s
 
 -- the number of what is known by the key: its place in the text. A value is no block, and a block no value
-abbrev pub numbered : Known → Sort → ℕ → Key → Result ℕ Fault
+abbrev pub numbered : LocalTable → Sort → ℕ → Key → Result ℕ Fault
 numbered known sort line key =
     if is_used_as sort (sort_of known.definitions key) then Ok (position_or_len (same_key key) (map (λ d. d.0) known.definitions)) else Err (unknown line)
 
-abbrev pub number_in : Known → Sort → Tok → Result ℕ Fault
+abbrev pub number_in : LocalTable → Sort → Tok → Result ℕ Fault
 number_in known sort name = numbered known sort name.line (key_of name)
 
 -- ---- each number that was written or counted is below the counter

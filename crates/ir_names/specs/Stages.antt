@@ -12,7 +12,7 @@ use Rattle.ir_names.specs.Globals.{Globals, no_globals, has_name, with_global}
 use Rattle.ir_names.specs.Groups.{once}
 use Rattle.ir_names.specs.Locals.{unknown}
 use Rattle.ir_names.specs.Marks.{Mark, type_name, shape, many, global, symbol, address}
-use Rattle.ir_names.specs.Settled.{◌>>=◌}
+use Rattle.ir_names.specs.Resolving.{◌>>=◌}
 use Rattle.ir_names.specs.Symbols.{symbol_name}
 use Rattle.ir_names.specs.Types.{Types, expanded}
 

@@ -19,7 +19,7 @@ trimmed (d ∷ e ∷ ds) = if nat_eq d 48 then trimmed (e ∷ ds) else d ∷ e �
 
 -- a number is a name too: its decimal digits
 unfoldable pub symbol_name : Tok → List ℕ
-symbol_name t = if is_numeral (stripped t.kind t.text) then trimmed (stripped t.kind t.text) else content t.kind t.text
+symbol_name t = if is_numeral (stripped t.form t.text) then trimmed (stripped t.form t.text) else content t.form t.text
 
 abbrev pub symbol_of : Tok → Symbol
 symbol_of t = record { home = None; name = symbol_name t }

@@ -7,7 +7,7 @@ use Rattle.ir_names.specs.declared.fault.Fault.{Fault}
 use Rattle.ir_names.specs.Keys.{Key, key_of, same_key}
 use Rattle.ir_names.specs.Locals.{unknown}
 use Rattle.ir_names.specs.Marks.{Mark, type_name, type_use, uses}
-use Rattle.ir_names.specs.Settled.{◌>>=◌}
+use Rattle.ir_names.specs.Resolving.{◌>>=◌}
 use Rattle.ir_names.specs.Stages.{Passes}
 use Rattle.ir_names.specs.Types.{Types, entry_of, shape_in, shape_if, with_type}
 use Rattle.ir_names.specs.Walks.{Graph, is_on_circle}

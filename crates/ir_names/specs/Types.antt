@@ -10,7 +10,7 @@ use Rattle.ir_names.specs.declared.fault.Fault.{Fault}
 use Rattle.ir_names.specs.declared.fault.NameFault.TheVariants.{Limit}
 use Rattle.ir_names.specs.Keys.{Key, key_of, same_key}
 use Rattle.ir_names.specs.Locals.{unknown, twice}
-use Rattle.ir_names.specs.Settled.{◌>>=◌, each}
+use Rattle.ir_names.specs.Resolving.{◌>>=◌, each}
 
 -- the type names in the order of the text, each with its shape; an opaque one has none
 abbrev pub Types : Type 0

@@ -23,8 +23,8 @@ use Rattle.ir_tree.specs.Initials.{Initial, tree_of}
 use Rattle.ir_tree.specs.Layout.{align}
 use Rattle.ir_names.specs.declared.fault.Fault.{Fault}
 use Rattle.ir_names.specs.Bodies.{operand_in, align_or}
-use Rattle.ir_names.specs.Locals.{Known, none_known}
-use Rattle.ir_names.specs.Settled.{◌>>=◌, each}
+use Rattle.ir_names.specs.Locals.{LocalTable, none_known}
+use Rattle.ir_names.specs.Resolving.{◌>>=◌, each}
 use Rattle.ir_names.specs.Symbols.{symbol_of}
 use Rattle.ir_names.specs.Types.{Types, is_width, expanded}
 
@@ -51,15 +51,15 @@ number_for (int w) t = literal_or w (if is_width w then literal w t.text else No
 number_for f t = to.Number 1 0
 
 -- what an initialiser for this shape begins with; a string is the bytes that it writes
-abbrev pub head_in : Types → Known → Form → raw_head.InitHead → Result InitHead Fault
+abbrev pub head_in : Types → LocalTable → Form → raw_head.InitHead → Result InitHead Fault
 head_in types locals f (rh.Plain operand) = operand_in types locals operand >>= λ o. Ok (th.Plain (constant_for f o))
 head_in types locals f rh.Zeros = Ok th.Zeros
-head_in types locals f (rh.Bytes string) = Ok (th.Bytes (content string.kind string.text))
+head_in types locals f (rh.Bytes string) = Ok (th.Bytes (content string.form string.text))
 head_in types locals f (rh.Number t) = Ok (th.Plain (number_for f t))
 head_in types locals f rh.Array = Ok th.Array
 head_in types locals f (rh.Struct packed) = Ok (th.Struct packed)
 
-abbrev pub part_in : Types → Known → raw_part.InitPart → Result InitPart Fault
+abbrev pub part_in : Types → LocalTable → raw_part.InitPart → Result InitPart Fault
 part_in types locals (rp.Typed typed head) = expanded types typed >>= λ f. head_in types locals f head >>= λ h. Ok (tp.Typed f h)
 part_in types locals rp.End = Ok tp.End
 

@@ -5,7 +5,7 @@ ghost use Rattle.ir_tree.specs.Layout.{IsLaidOut, AreLaidOut};
 ghost use Rattle.ir_names.specs.Addresses.{bad_index, extended, scaled, picks, part_at, offset_in, level_offset, offset_behind};
 ghost use Rattle.ir_names.specs.Addresses as addresses;
 ghost use Rattle.ir_tree.specs.declared.failure.Failure.TheVariants as errors;
-ghost use Rattle.ir_names.specs.Settled.{Settles};
+ghost use Rattle.ir_names.specs.Resolving.{ResolvesTo};
 
 use crate::expand::expanded;
 use crate::fault::{Fault, NameFault, ResolveError};
@@ -74,7 +74,7 @@ fn picked<'p>(index: &Index, parts: &'p [Tree]) -> Option<&'p Tree>
 /// The offset of what the indices lead to within a shape.
 fn offset_in(shape: &Tree, indices: &[Index]) -> Result<u64, ResolveError>
     requires { IsLaidOut shape.now }
-    ensures { Settles (λ n. n) result (offset_in shape.now indices.now) }
+    ensures { ResolvesTo (λ n. n) result (offset_in shape.now indices.now) }
 {
     let (index, rest) = match indices {
         [] => return Ok(0),
@@ -101,7 +101,7 @@ fn offset_in(shape: &Tree, indices: &[Index]) -> Result<u64, ResolveError>
 /// The offset that one level of a constant address adds: its first index counts whole shapes.
 #[tactic(auto, unfolding(crate::specs::Addresses::level_offset))]
 fn level_offset<'t>(alloc: Global, types: &Types<'t>, level: &'t Level) -> Result<u64, ResolveError>
-    ensures { Settles (λ n. n) result (level_offset types.now level.now) }
+    ensures { ResolvesTo (λ n. n) result (level_offset types.now level.now) }
 {
     let shape = expanded(alloc, types, &level.typed)?;
     offset_of(&shape, level.indices.as_slice())
@@ -110,7 +110,7 @@ fn level_offset<'t>(alloc: Global, types: &Types<'t>, level: &'t Level) -> Resul
 /// The offset of what the indices lead to from a shape on, the first of which counts whole shapes.
 fn offset_of(shape: &Tree, indices: &[Index]) -> Result<u64, ResolveError>
     requires { IsLaidOut shape.now }
-    ensures { Settles (λ n. n) result (addresses.offset_of shape.now indices.now) }
+    ensures { ResolvesTo (λ n. n) result (addresses.offset_of shape.now indices.now) }
 {
     match indices {
         [] => Ok(0),
@@ -127,7 +127,7 @@ pub fn address_offset<'t>(
     types: &Types<'t>,
     levels: &'t [Level],
 ) -> Result<u64, ResolveError>
-    ensures { Settles (λ n. n) result (offset_behind 0 types.now levels.now) }
+    ensures { ResolvesTo (λ n. n) result (offset_behind 0 types.now levels.now) }
 {
     let mut offset = 0u64;
     'each: for level in levels {

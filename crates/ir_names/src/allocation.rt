@@ -2,7 +2,7 @@
 ghost use Rattle.std.specs.Prelude.{◌≡◌, IfOk};
 ghost use Rattle.ir_tree.specs.Layout.{IsLaidOut};
 ghost use Rattle.ir_names.specs.Bodies.{allocated, align_or};
-ghost use Rattle.ir_names.specs.Settled.{Settles};
+ghost use Rattle.ir_names.specs.Resolving.{ResolvesTo};
 
 use crate::expand::{array_of, expanded};
 use crate::fault::ResolveError;
@@ -18,7 +18,7 @@ pub fn allocated<'t>(
     typed: &'t Typed,
     count: u64,
 ) -> Result<Shape, ResolveError>
-    ensures given { Settles (λ s. s) result (allocated types.now typed.now count) }
+    ensures given { ResolvesTo (λ s. s) result (allocated types.now typed.now count) }
     ensures laid { IfOk result (λ s. IsLaidOut s) }
 {
     if count == 1 {

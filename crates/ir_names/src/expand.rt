@@ -5,7 +5,7 @@ ghost use Rattle.ir_tree.specs.Forms.{structure, array, forms_of};
 ghost use Rattle.ir_tree.specs.Layout.{IsLaidOut, AreLaidOut, size, ends, begins, widest, rounded};
 ghost use Rattle.ir_tree.specs.declared.failure.Failure.TheVariants as errors;
 ghost use Rattle.ir_read.specs.Shapes.{parts_of, list_of};
-ghost use Rattle.ir_names.specs.Settled.{Settles, each};
+ghost use Rattle.ir_names.specs.Resolving.{ResolvesTo, each};
 ghost use Rattle.ir_names.specs.Types.{expand, limit, scalar, within, without_parts, opened, structure_of};
 ghost use Rattle.ir_names.specs.Types as typing;
 
@@ -34,7 +34,7 @@ pub fn limit(line: u32) -> ResolveError
 
 /// An integer.
 fn scalar(line: u32, width: u8) -> Result<Tree, ResolveError>
-    ensures given { Settles (λ s. s) result (scalar line width) }
+    ensures given { ResolvesTo (λ s. s) result (scalar line width) }
     ensures laid { IfOk result (λ s. IsLaidOut s) }
 {
     if 8 <= width && width <= 64 {
@@ -126,7 +126,7 @@ fn struct_size(packed: bool, parts: &[Tree]) -> Option<u64>
 /// A structure of these parts.
 fn structure_within(line: u32, packed: bool, parts: Vec<Tree>) -> Result<Tree, ResolveError>
     requires { AreLaidOut (forms_of parts.items) }
-    ensures given { Settles (λ s. s) result (within line (structure packed (forms_of parts.items))) }
+    ensures given { ResolvesTo (λ s. s) result (within line (structure packed (forms_of parts.items))) }
     ensures laid { IfOk result (λ s. IsLaidOut s) }
 {
     match struct_size(packed, &parts) {
@@ -138,7 +138,7 @@ fn structure_within(line: u32, packed: bool, parts: Vec<Tree>) -> Result<Tree, R
 /// An array of so many of a shape.
 fn array_within(alloc: Global, line: u32, count: u64, of: Tree) -> Result<Tree, ResolveError>
     requires { IsLaidOut of }
-    ensures given { Settles (λ s. s) result (within line (array count of)) }
+    ensures given { ResolvesTo (λ s. s) result (within line (array count of)) }
     ensures laid { IfOk result (λ s. IsLaidOut s) }
 {
     match count.checked_mul(size_of(&of)) {
@@ -152,7 +152,7 @@ fn array_within(alloc: Global, line: u32, count: u64, of: Tree) -> Result<Tree, 
 
 /// A shape that may have no parts.
 fn without_parts(line: u32, head: &Shape) -> Result<Tree, ResolveError>
-    ensures given { Settles (λ s. s) result (without_parts line head.now) }
+    ensures given { ResolvesTo (λ s. s) result (without_parts line head.now) }
     ensures laid { IfOk result (λ s. IsLaidOut s) }
 {
     match head.node() {
@@ -173,7 +173,7 @@ fn expand<'t>(
     line: u32,
     shape: &'t Shape,
 ) -> Result<Tree, ResolveError>
-    ensures given { Settles (λ s. s) result (typing.expand nesting types.now line shape.now) }
+    ensures given { ResolvesTo (λ s. s) result (typing.expand nesting types.now line shape.now) }
     ensures laid { IfOk result (λ s. IsLaidOut s) }
 {
     let head = types.head_of(alloc, shape)?;
@@ -204,7 +204,7 @@ fn expand_struct<'t>(
     packed: bool,
     shapes: &'t [Shape],
 ) -> Result<Tree, ResolveError>
-    ensures given { Settles (λ s. s) result (structure_of line packed (each (typing.expand nesting types.now line) (list_of (parts_of shapes.now)))) }
+    ensures given { ResolvesTo (λ s. s) result (structure_of line packed (each (typing.expand nesting types.now line) (list_of (parts_of shapes.now)))) }
     ensures laid { IfOk result (λ s. IsLaidOut s) }
 {
     let parts = expand_all(alloc, types, nesting, line, shapes)?;
@@ -221,7 +221,7 @@ fn expand_all<'t>(
     line: u32,
     shapes: &'t [Shape],
 ) -> Result<Vec<Tree>, ResolveError>
-    ensures given { Settles (λ v. v.items) result (each (typing.expand nesting types.now line) (list_of (parts_of shapes.now))) }
+    ensures given { ResolvesTo (λ v. v.items) result (each (typing.expand nesting types.now line) (list_of (parts_of shapes.now))) }
     ensures laid { IfOk result (λ v. AreLaidOut (forms_of v.items)) }
 {
     let mut out = Vec::new(alloc);
@@ -239,7 +239,7 @@ pub fn expanded<'t>(
     types: &Types<'t>,
     typed: &'t Typed,
 ) -> Result<Tree, ResolveError>
-    ensures given { Settles (λ s. s) result (typing.expanded types.now typed.now) }
+    ensures given { ResolvesTo (λ s. s) result (typing.expanded types.now typed.now) }
     ensures laid { IfOk result (λ s. IsLaidOut s) }
 {
     expand(alloc, types, NESTING, typed.line, &typed.shape)
@@ -253,7 +253,7 @@ pub fn array_of<'t>(
     typed: &'t Typed,
     count: u64,
 ) -> Result<Tree, ResolveError>
-    ensures given { Settles (λ s. s) result (typing.array_of types.now typed.now count) }
+    ensures given { ResolvesTo (λ s. s) result (typing.array_of types.now typed.now count) }
     ensures laid { IfOk result (λ s. IsLaidOut s) }
 {
     let of = expand(alloc, types, NESTING - 1, typed.line, &typed.shape)?;

@@ -3,7 +3,7 @@ ghost use Rattle.std.specs.Prelude.{◌≡◌, ◌+◌, ◌≤◌, ◌^◌, ◌+
 ghost use Rattle.std.specs.Cow.{cow_slice_items};
 ghost use Rattle.ir_names.specs.Globals.{no_globals, has_name, is_low, counted_by, with_global};
 ghost use Rattle.ir_names.specs.Symbols.{symbol_name};
-ghost use Rattle.ir_names.specs.Settled.{Settles};
+ghost use Rattle.ir_names.specs.Resolving.{ResolvesTo};
 
 use crate::fault::{Fault, NameFault, ResolveError};
 use crate::key::number_of;
@@ -93,7 +93,7 @@ impl<'t> Globals<'t> {
         number: Option<u32>,
     ) -> Result<(), ResolveError>
         requires { has_name self.old.names (cow_slice_items wanted) ≡ false }
-        ensures { Settles (λ _. self.new) result (Ok (record { names = self.old.names ++ cow_slice_items wanted.entry ∷ []; counter = counted_by self.old.counter number })) }
+        ensures { ResolvesTo (λ _. self.new) result (Ok (record { names = self.old.names ++ cow_slice_items wanted.entry ∷ []; counter = counted_by self.old.counter number })) }
     {
         let counter = counted_by(self.counter, number);
         self.set.insert(wanted)?;
@@ -103,7 +103,7 @@ impl<'t> Globals<'t> {
 
     /// One more definition or declaration, in the order of the text.
     pub fn define(&mut self, alloc: Global, name: &'t Name) -> Result<(), ResolveError>
-        ensures { Settles (λ _. self.new) result (with_global self.old name.now) }
+        ensures { ResolvesTo (λ _. self.new) result (with_global self.old name.now) }
     {
         let wanted = name_of(alloc, name)?;
         let number = number_of(name);

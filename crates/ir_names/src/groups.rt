@@ -3,12 +3,12 @@ ghost use Rattle.std.specs.Prelude.{◌≡◌, Ok, drop};
 ghost use Rattle.std.specs.Cow.{cow_slice_items};
 ghost use Rattle.ir_names.specs.Groups.{group_key, no_groups, said, with_group, any_of, is_noinline, is_optnone};
 ghost use Rattle.ir_names.specs.Groups as groups;
-ghost use Rattle.ir_names.specs.Settled.{Settles};
+ghost use Rattle.ir_names.specs.Resolving.{ResolvesTo};
 
 use crate::fault::ResolveError;
 use crate::name_set::NameSet;
 use crate::symbol::trimmed;
-use ir_read::{Head, Item, Name};
+use ir_read::{FunctionHeader, Item, Name};
 use std::alloc::Global;
 use std::borrow::CowSlice;
 
@@ -39,7 +39,7 @@ fn group_key<'t>(name: &'t Name) -> CowSlice<'t, u8, Global>
 
 /// One more name, where it is said.
 fn said<'t>(says: bool, names: &mut NameSet<'t>, name: &'t Name) -> Result<(), ResolveError>
-    ensures { Settles (λ _. names.new) result (Ok (said says names.old (group_key name.now))) }
+    ensures { ResolvesTo (λ _. names.new) result (Ok (said says names.old (group_key name.now))) }
 {
     if says {
         names.add(group_key(name))
@@ -49,7 +49,7 @@ fn said<'t>(says: bool, names: &mut NameSet<'t>, name: &'t Name) -> Result<(), R
 }
 
 fn with_group<'t>(found: &mut Groups<'t>, item: &'t Item) -> Result<(), ResolveError>
-    ensures { Settles (λ _. found.new) result (Ok (with_group found.old item.now)) }
+    ensures { ResolvesTo (λ _. found.new) result (Ok (with_group found.old item.now)) }
 {
     match item {
         Item::Attributes {
@@ -66,7 +66,7 @@ fn with_group<'t>(found: &mut Groups<'t>, item: &'t Item) -> Result<(), ResolveE
 
 /// The groups of a module. A group that stands twice says what both say.
 pub fn groups_of<'t>(alloc: Global, items: &'t [Item]) -> Result<Groups<'t>, ResolveError>
-    ensures { Settles (λ g. g) result (Ok (groups.groups_of items.now)) }
+    ensures { ResolvesTo (λ g. g) result (Ok (groups.groups_of items.now)) }
 {
     let mut found = Groups {
         noinline: NameSet::new(alloc),
@@ -90,14 +90,14 @@ fn any_of<'t>(names: &NameSet<'t>, named: &'t [Name]) -> bool
 }
 
 /// Whether a function's own words or a group that it names say `noinline`.
-pub fn is_noinline<'t>(found: &Groups<'t>, head: &'t Head) -> bool
+pub fn is_noinline<'t>(found: &Groups<'t>, head: &'t FunctionHeader) -> bool
     ensures { result ≡ is_noinline found.now head.now }
 {
     head.noinline || any_of(&found.noinline, head.groups.as_slice())
 }
 
 /// Whether a function's own words or a group that it names say `optnone`.
-pub fn is_optnone<'t>(found: &Groups<'t>, head: &'t Head) -> bool
+pub fn is_optnone<'t>(found: &Groups<'t>, head: &'t FunctionHeader) -> bool
     ensures { result ≡ is_optnone found.now head.now }
 {
     head.optnone || any_of(&found.optnone, head.groups.as_slice())

@@ -3,7 +3,7 @@ ghost use Rattle.std.specs.Prelude.{◌≡◌, Ok, IfOk, IfSome};
 ghost use Rattle.ir_lex.specs.Tok.{Tok};
 ghost use Rattle.ir_read.specs.Shapes.{named};
 ghost use Rattle.ir_names.specs.Heads.{IsHead, AreHeads, IsChain, IsChainFrom};
-ghost use Rattle.ir_names.specs.Settled.{Settles};
+ghost use Rattle.ir_names.specs.Resolving.{ResolvesTo};
 ghost use Rattle.ir_names.specs.Types.{entry_in, head_of, shape_at};
 
 use crate::fault::ResolveError;
@@ -233,7 +233,7 @@ impl<'t> Types<'t> {
     /// The shape that the chain of names from a name on leads to.
     #[tactic(auto, unfolding(crate::specs::Types::head_of), using(crate::proofs::Chains::found))]
     fn head_behind(&self, alloc: Global, name: &Name) -> Result<&'t Shape, ResolveError>
-        ensures { Settles (λ s. s.now) result (head_of self.now (named name.now)) }
+        ensures { ResolvesTo (λ s. s.now) result (head_of self.now (named name.now)) }
     {
         let place = self.names.place_in(alloc, name)?;
         match chain_at(&self.names, &self.heads, place) {
@@ -247,7 +247,7 @@ impl<'t> Types<'t> {
     /// The shape that a shape is, or that the chain of names from it on leads to.
     #[tactic(auto, unfolding(crate::specs::Types::head_of))]
     pub fn head_of(&self, alloc: Global, shape: &'t Shape) -> Result<&'t Shape, ResolveError>
-        ensures { Settles (λ s. s.now) result (head_of self.now shape.now) }
+        ensures { ResolvesTo (λ s. s.now) result (head_of self.now shape.now) }
     {
         match shape.node() {
             ShapeNode::Named(name) => self.head_behind(alloc, name),

@@ -7,7 +7,7 @@
 //! definitions of stages over a whole module stand here too, for `ir_stages`.
 //!
 //! **Promise.** A call gives what its definition says, the fault with its kind and line among it, unless memory runs
-//! out (`specs/Settled`): [`expanded`] by `specs/Types`, [`Globals`] by `specs/Globals`, [`Locals`] by `specs/Locals`.
+//! out (`specs/Resolving`): [`expanded`] by `specs/Types`, [`Globals`] by `specs/Globals`, [`Locals`] by `specs/Locals`.
 //!
 //! **Cost.** Names are found by hash, and what a chain of type names leads to is found once for each name. A shape with
 //! its names expanded may be exponentially longer than its text, up to 32 levels and 2^31 bytes, and recursion goes as

@@ -3,8 +3,8 @@
 ghost use Rattle.std.specs.Prelude.{◌≡◌, false, ◌++◌, ◌∷◌, [], ◌+◌, ◌<◌, ◌≤◌, ◌^◌, ◌||◌, Ok, Some, None, option_map, option_copied, length};
 ghost use Rattle.ir_names.specs.Keys.{key_of, written, IsWritten};
 ghost use Rattle.ir_names.specs.KeyViews.{key};
-ghost use Rattle.ir_names.specs.Locals.{Known, none_known, place_of, sort_of, stands, is_below, with_key, counted, with_definition, with_name, number_in, MayFollow};
-ghost use Rattle.ir_names.specs.Settled.{Settles};
+ghost use Rattle.ir_names.specs.Locals.{LocalTable, none_known, place_of, sort_of, stands, is_below, with_key, counted, with_definition, with_name, number_in, MayFollow};
+ghost use Rattle.ir_names.specs.Resolving.{ResolvesTo};
 
 use crate::fault::{Fault, NameFault, ResolveError};
 use crate::key::{Key, key_of};
@@ -40,10 +40,10 @@ pub struct Locals<'t> {
 }
 
 impl<'t> Model for Locals<'t> {
-    ghost use Rattle.ir_names.specs.Locals.{Known};
+    ghost use Rattle.ir_names.specs.Locals.{LocalTable};
     ghost use Rattle.ir_names.specs.LocalsViews.{definitions};
 
-    ghost Value = { Known };
+    ghost Value = { LocalTable };
 
     ghost view = { λ l. record { definitions = definitions l.map.entries; counter = l.counter } };
 
@@ -80,7 +80,7 @@ impl<'t> Locals<'t> {
         requires free { stands self.old.definitions (key new_key) ≡ false }
         requires above { is_below self.old.counter (key new_key) ≡ false }
         requires next { MayFollow self.old.counter (key new_key) }
-        ensures { Settles (λ _. self.new) result (Ok (with_key self.old (key new_key.entry) sort)) }
+        ensures { ResolvesTo (λ _. self.new) result (Ok (with_key self.old (key new_key.entry) sort)) }
     {
         // there are fewer than 2^63 definitions, so the counter has room for one more
         let _known = self.map.len();
@@ -113,7 +113,7 @@ impl<'t> Locals<'t> {
     /// A definition under a name on a line.
     fn define_as(&mut self, line: u32, wanted: Key<'t>, sort: Sort) -> Result<(), ResolveError>
         requires { IsWritten (key wanted) }
-        ensures { Settles (λ _. self.new) result (with_definition self.old line (key wanted.entry) sort) }
+        ensures { ResolvesTo (λ _. self.new) result (with_definition self.old line (key wanted.entry) sort) }
     {
         if self.is_below(&wanted) || self.stands(&wanted) {
             return Err(ResolveError::Fault(Fault {
@@ -126,7 +126,7 @@ impl<'t> Locals<'t> {
 
     /// A definition without a name, which takes the counter.
     fn define_unnamed(&mut self, sort: Sort) -> Result<(), ResolveError>
-        ensures { Settles (λ _. self.new) result (Ok (with_key self.old (written self.old.counter) sort)) }
+        ensures { ResolvesTo (λ _. self.new) result (Ok (with_key self.old (written self.old.counter) sort)) }
     {
         let counter = self.counter;
         self.push(Key::Written(counter), sort)
@@ -139,7 +139,7 @@ impl<'t> Locals<'t> {
         name: Option<&'t Name>,
         sort: Sort,
     ) -> Result<(), ResolveError>
-        ensures { Settles (λ _. self.new) result (with_name self.old (option_copied name.entry) sort) }
+        ensures { ResolvesTo (λ _. self.new) result (with_name self.old (option_copied name.entry) sort) }
     {
         match name {
             None => self.define_unnamed(sort),
@@ -152,7 +152,7 @@ impl<'t> Locals<'t> {
 
     /// The number of what a name stands for, where that is of this sort.
     pub fn number_of(&self, alloc: Global, name: &Name, sort: Sort) -> Result<u32, ResolveError>
-        ensures { Settles (λ n. n) result (number_in self.now sort name.now) }
+        ensures { ResolvesTo (λ n. n) result (number_in self.now sort name.now) }
     {
         let wanted = key_of(alloc, name)?;
         match self.place_of(&wanted) {

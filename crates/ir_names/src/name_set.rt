@@ -3,7 +3,7 @@ ghost use Rattle.std.specs.Prelude.{◌≡◌, [], ◌∷◌, ◌++◌, Ok, fals
 ghost use Rattle.std.specs.Cow.{cow_slice_items};
 ghost use Rattle.ir_names.specs.Globals.{has_name};
 ghost use Rattle.ir_names.specs.Groups.{once};
-ghost use Rattle.ir_names.specs.Settled.{Settles};
+ghost use Rattle.ir_names.specs.Resolving.{ResolvesTo};
 
 use crate::fault::ResolveError;
 use indexmap::IndexSet;
@@ -46,7 +46,7 @@ impl<'t> NameSet<'t> {
     /// One more name, which isn't there.
     fn push(&mut self, wanted: CowSlice<'t, u8, Global>) -> Result<(), ResolveError>
         requires { has_name self.old (cow_slice_items wanted) ≡ false }
-        ensures { Settles (λ _. self.new) result (Ok (self.old ++ cow_slice_items wanted.entry ∷ [])) }
+        ensures { ResolvesTo (λ _. self.new) result (Ok (self.old ++ cow_slice_items wanted.entry ∷ [])) }
     {
         self.set.insert(wanted)?;
         Ok(())
@@ -54,7 +54,7 @@ impl<'t> NameSet<'t> {
 
     /// One more name, where it isn't there.
     pub fn add(&mut self, wanted: CowSlice<'t, u8, Global>) -> Result<(), ResolveError>
-        ensures { Settles (λ _. self.new) result (Ok (once self.old (cow_slice_items wanted.entry))) }
+        ensures { ResolvesTo (λ _. self.new) result (Ok (once self.old (cow_slice_items wanted.entry))) }
     {
         if self.contains(&wanted) {
             return Ok(());

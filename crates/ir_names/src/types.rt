@@ -6,7 +6,7 @@ ghost use Rattle.ir_names.specs.Keys.{key_of};
 ghost use Rattle.ir_names.specs.KeyViews.{key};
 ghost use Rattle.ir_names.specs.Locals.{unknown};
 ghost use Rattle.ir_tree.specs.declared.failure.Failure.TheVariants as errors;
-ghost use Rattle.ir_names.specs.Settled.{Settles};
+ghost use Rattle.ir_names.specs.Resolving.{ResolvesTo};
 ghost use Rattle.ir_names.specs.TypeNames.{place_of};
 ghost use Rattle.ir_names.specs.Types.{entry_of, entry_in, shape_at, shape_in, head_from, chased, with_type, shape_if};
 
@@ -55,7 +55,7 @@ impl<'t> TypeNames<'t> {
         name: &'t Name,
         shape: Option<&'t Shape>,
     ) -> Result<(), ResolveError>
-        ensures { Settles (λ _. self.new) result (with_type self.old name.now (option_copied shape.entry)) }
+        ensures { ResolvesTo (λ _. self.new) result (with_type self.old name.now (option_copied shape.entry)) }
     {
         let wanted = key_of(alloc, name)?;
         if self.place_of(&wanted).is_some() {
@@ -74,7 +74,7 @@ impl<'t> TypeNames<'t> {
         name: &'t Name,
         shape: Option<&'t Shape>,
     ) -> Result<(), ResolveError>
-        ensures { Settles (λ _. self.new) result (Ok (if is_some (entry_of self.old (key_of name.now)) then self.old else self.old ++ (key_of name.now, option_copied shape.entry) ∷ [])) }
+        ensures { ResolvesTo (λ _. self.new) result (Ok (if is_some (entry_of self.old (key_of name.now)) then self.old else self.old ++ (key_of name.now, option_copied shape.entry) ∷ [])) }
     {
         let wanted = key_of(alloc, name)?;
         if self.place_of(&wanted).is_some() {
@@ -86,7 +86,7 @@ impl<'t> TypeNames<'t> {
     /// One more definition, under a key that isn't there.
     fn push(&mut self, wanted: Key<'t>, shape: Option<&'t Shape>) -> Result<(), ResolveError>
         requires { is_some (entry_of self.old (key wanted)) ≡ false }
-        ensures { Settles (λ _. self.new) result (Ok (self.old ++ (key wanted.entry, option_copied shape.entry) ∷ [])) }
+        ensures { ResolvesTo (λ _. self.new) result (Ok (self.old ++ (key wanted.entry, option_copied shape.entry) ∷ [])) }
     {
         self.map.insert(wanted, shape)?;
         Ok(())
@@ -101,7 +101,7 @@ impl<'t> TypeNames<'t> {
 
     /// The place of a type name among the definitions.
     pub fn place_in(&self, alloc: Global, name: &Name) -> Result<usize, ResolveError>
-        ensures { Settles (λ p. shape_at self.now p) result (entry_in self.now name.now) }
+        ensures { ResolvesTo (λ p. shape_at self.now p) result (entry_in self.now name.now) }
     {
         let wanted = key_of(alloc, name)?;
         match self.place_of(&wanted) {
@@ -112,7 +112,7 @@ impl<'t> TypeNames<'t> {
 
     /// The place of a type name among the definitions, where it is there.
     pub fn place_of_name(&self, alloc: Global, name: &Name) -> Result<Option<usize>, ResolveError>
-        ensures { Settles (λ p. p) result (Ok (place_of self.now (key_of name.now))) }
+        ensures { ResolvesTo (λ p. p) result (Ok (place_of self.now (key_of name.now))) }
     {
         let wanted = key_of(alloc, name)?;
         Ok(self.place_of(&wanted))
@@ -120,7 +120,7 @@ impl<'t> TypeNames<'t> {
 
     /// What a type name that is used is defined as.
     pub fn shape_in(&self, alloc: Global, name: &Name) -> Result<&'t Shape, ResolveError>
-        ensures { Settles (λ s. s.now) result (shape_in self.now name.now) }
+        ensures { ResolvesTo (λ s. s.now) result (shape_in self.now name.now) }
     {
         let place = self.place_in(alloc, name)?;
         match self.shape_at(place) {
@@ -156,7 +156,7 @@ impl<'t> TypeNames<'t> {
         first_line: u32,
         most: usize,
     ) -> Result<&'t Shape, ResolveError>
-        ensures { Settles (λ s. s.now) result (chased most self.now first_line (shape_at self.now first)) }
+        ensures { ResolvesTo (λ s. s.now) result (chased most self.now first_line (shape_at self.now first)) }
     {
         let mut place = first;
         let mut line = first_line;

@@ -2,9 +2,9 @@
 use Rattle.std.proofs.Common.{◌≡◌, ℕ, Bool, true, false, cond, ◌&&◌, ◌||◌, not, nat_eq, Option, Some, None, List, [], ◌∷◌, Result, Ok, Err, refl, sym, ap, subst, ◌∙◌, arith, ◌⊎◌, inl, inr}
 use Rattle.std.specs.Prelude.{codes, nat_lt}
 use Rattle.ir_lex.specs.Bytes.{has}
-use Rattle.ir_lex.specs.declared.head.Head.TheVariants as heads
-use Rattle.ir_lex.specs.declared.token.Kind.TheVariants as kinds
-use Rattle.ir_lex.specs.Heads.{number, head_of, word_head, listed_head, words_1}
+use Rattle.ir_lex.specs.declared.token_kind.TokenKind.TheVariants as kinds
+use Rattle.ir_lex.specs.declared.token.TokenForm.TheVariants as forms
+use Rattle.ir_lex.specs.TokenKinds.{number, kind_of, word_kind, listed_kind, words_1}
 use Rattle.ir_lex.specs.Lexing.{is_bad}
 use Rattle.ir_lex.specs.Quotes.{is_zero_name}
 use Rattle.ir_lex.specs.Rows.{best_fit, rest_fit, label_len, number_len, word_len, name_len, meta_len, dots_len, other_len, string_len}
@@ -38,7 +38,7 @@ use Rattle.ir_read.proofs.Words.{local_real}
 -- ---- type names, and scalars that have room
 
 abbrev zero_local : Tok
-zero_local = sample kinds.Local heads.Local (codes "%0")
+zero_local = sample forms.Local kinds.Local (codes "%0")
 
 abbrev zero_typed : Typed
 zero_typed = typed (named zero_local) 1
@@ -74,11 +74,11 @@ leaf_range : (room : Room) (t : Tok) → is_leaf room t ≡ refuse Number → (i
 unfolding is_leaf is_valued
 leaf_range room t e = by_test (among tokens SCALAR t && has_room room t) e
   where
-    by_name : (b : Bool) (o : Option Typed) → among tokens LOCAL t ≡ b → named_means b o (memory_refusal (number t.head)) ≡ refuse Number → (is_number tokens t ≡ true) × (u : Tok) × (b : Typed) × (tokens.class u ≡ tokens.class t) × (is_leaf room u ≡ Ok b) × IsReal u
-    by_name true o h d = let c : number t.head ≡ number heads.Local = only (number t.head) (number heads.Local) h in (ap (contains NUMERALS) c, zero_local, zero_typed, sym c, zero_is_leaf room, local_real)
-    by_name false o h d = absurd (memory_not_number (number t.head) (err_is (memory_refusal (number t.head)) Number d))
+    by_name : (b : Bool) (o : Option Typed) → among tokens LOCAL t ≡ b → named_means b o (memory_refusal (number t.kind)) ≡ refuse Number → (is_number tokens t ≡ true) × (u : Tok) × (b : Typed) × (tokens.class u ≡ tokens.class t) × (is_leaf room u ≡ Ok b) × IsReal u
+    by_name true o h d = let c : number t.kind ≡ number kinds.Local = only (number t.kind) (number kinds.Local) h in (ap (contains NUMERALS) c, zero_local, zero_typed, sym c, zero_is_leaf room, local_real)
+    by_name false o h d = absurd (memory_not_number (number t.kind) (err_is (memory_refusal (number t.kind)) Number d))
 
-    by_test : (b : Bool) → cond b (Ok (scalar_typed t)) (named_means (among tokens LOCAL t) (type_name t) (memory_refusal (number t.head))) ≡ refuse Number → (is_number tokens t ≡ true) × (u : Tok) × (b : Typed) × (tokens.class u ≡ tokens.class t) × (is_leaf room u ≡ Ok b) × IsReal u
+    by_test : (b : Bool) → cond b (Ok (scalar_typed t)) (named_means (among tokens LOCAL t) (type_name t) (memory_refusal (number t.kind))) ≡ refuse Number → (is_number tokens t ≡ true) × (u : Tok) × (b : Typed) × (tokens.class u ≡ tokens.class t) × (is_leaf room u ≡ Ok b) × IsReal u
     by_test true d = absurd cc
     by_test false d = by_name (among tokens LOCAL t) (type_name t) refl d
 
@@ -86,12 +86,12 @@ leaf_never : (room : Room) (t : Tok) → is_leaf room t ≡ refuse Limit → ⊥
 unfolding is_leaf is_valued
 leaf_never room t e = by_test (among tokens SCALAR t && has_room room t) e
   where
-    by_name : (b : Bool) (o : Option Typed) → named_means b o (memory_refusal (number t.head)) ≡ refuse Limit → ⊥
+    by_name : (b : Bool) (o : Option Typed) → named_means b o (memory_refusal (number t.kind)) ≡ refuse Limit → ⊥
     by_name true None d = cc
     by_name true (Some x) d = cc
-    by_name false o d = memory_not_limit (number t.head) (err_is (memory_refusal (number t.head)) Limit d)
+    by_name false o d = memory_not_limit (number t.kind) (err_is (memory_refusal (number t.kind)) Limit d)
 
-    by_test : (b : Bool) → cond b (Ok (scalar_typed t)) (named_means (among tokens LOCAL t) (type_name t) (memory_refusal (number t.head))) ≡ refuse Limit → ⊥
+    by_test : (b : Bool) → cond b (Ok (scalar_typed t)) (named_means (among tokens LOCAL t) (type_name t) (memory_refusal (number t.kind))) ≡ refuse Limit → ⊥
     by_test true d = cc
     by_test false d = by_name (among tokens LOCAL t) (type_name t) d
 
@@ -101,11 +101,11 @@ is_false false never = refl
 
 -- what writes a number is no scalar
 not_scalar : (t : Tok) → is_number tokens t ≡ true → among tokens SCALAR t ≡ false
-not_scalar t n = is_false (among tokens SCALAR t) (λ p. apart_from NUMERALS SCALAR refl (number t.head) n p)
+not_scalar t n = is_false (among tokens SCALAR t) (λ p. apart_from NUMERALS SCALAR refl (number t.kind) n p)
 
 leaf_alike : (room : Room) (t u : Tok) → is_number tokens t ≡ true → tokens.class u ≡ tokens.class t → SameRefusal (is_leaf room t) (is_leaf room u)
 unfolding is_leaf is_valued
-leaf_alike room t u n e = by_scalar (among tokens SCALAR t) (among tokens SCALAR u) (not_scalar t n) (not_scalar u (ap (contains NUMERALS) e ∙ n)) (among tokens LOCAL t) (among tokens LOCAL u) (ap (contains LOCAL) (sym e)) (type_name t) (type_name u) (memory_refusal (number t.head)) (memory_refusal (number u.head)) (ap memory_refusal (sym e))
+leaf_alike room t u n e = by_scalar (among tokens SCALAR t) (among tokens SCALAR u) (not_scalar t n) (not_scalar u (ap (contains NUMERALS) e ∙ n)) (among tokens LOCAL t) (among tokens LOCAL u) (ap (contains LOCAL) (sym e)) (type_name t) (type_name u) (memory_refusal (number t.kind)) (memory_refusal (number u.kind)) (ap memory_refusal (sym e))
   where
     alike_refused : (k l : TokenFault) → k ≡ l → SameRefusal {A = Typed} (Err k) (Err l)
     alike_refused Number l e = tt
@@ -125,7 +125,7 @@ leaf_alike room t u n e = by_scalar (among tokens SCALAR t) (among tokens SCALAR
     by_scalar false false d d' b' c' h o p k l i = by_name b' c' h o p k l i
 
 abbrev pub LEAF : List ℕ
-LEAF = number heads.Local ∷ SCALAR
+LEAF = number kinds.Local ∷ SCALAR
 
 or_left : (a b : Bool) → a ≡ true → a || b ≡ true
 or_left true b e = refl
@@ -139,12 +139,12 @@ leaf_begins : (room : Room) (t : Tok) (x : Typed) → is_leaf room t ≡ Ok x �
 unfolding is_leaf is_valued
 leaf_begins room t x e = by_scalar (among tokens SCALAR t) (has_room room t) refl e
   where
-    by_name : (b : Bool) → nat_eq (number t.head) (number heads.Local) || false ≡ b → named_means b (type_name t) (memory_refusal (number t.head)) ≡ Ok x → among tokens LEAF t ≡ true
-    by_name true h d = or_left (nat_eq (number t.head) (number heads.Local)) (among tokens SCALAR t) (ap (λ (n : ℕ). nat_eq n (number heads.Local)) (only (number t.head) (number heads.Local) h))
+    by_name : (b : Bool) → nat_eq (number t.kind) (number kinds.Local) || false ≡ b → named_means b (type_name t) (memory_refusal (number t.kind)) ≡ Ok x → among tokens LEAF t ≡ true
+    by_name true h d = or_left (nat_eq (number t.kind) (number kinds.Local)) (among tokens SCALAR t) (ap (λ (n : ℕ). nat_eq n (number kinds.Local)) (only (number t.kind) (number kinds.Local) h))
     by_name false h d = absurd cc
 
-    by_scalar : (b c : Bool) → among tokens SCALAR t ≡ b → cond (b && c) (Ok (scalar_typed t)) (named_means (among tokens LOCAL t) (type_name t) (memory_refusal (number t.head))) ≡ Ok x → among tokens LEAF t ≡ true
-    by_scalar true c h d = or_right (nat_eq (number t.head) (number heads.Local)) (among tokens SCALAR t) h
+    by_scalar : (b c : Bool) → among tokens SCALAR t ≡ b → cond (b && c) (Ok (scalar_typed t)) (named_means (among tokens LOCAL t) (type_name t) (memory_refusal (number t.kind))) ≡ Ok x → among tokens LEAF t ≡ true
+    by_scalar true c h d = or_right (nat_eq (number t.kind) (number kinds.Local)) (among tokens SCALAR t) h
     by_scalar false c h d = by_name (among tokens LOCAL t) refl d
 
 -- a scalar has room in 2^31 bytes
@@ -166,8 +166,8 @@ not_both : (t : Tok) (x : Typed) → among tokens SCALAR t ≡ true → is_value
 unfolding is_valued
 not_both t x h e = by_name (among tokens LOCAL t) refl e
   where
-    by_name : (b : Bool) → among tokens LOCAL t ≡ b → named_means b (type_name t) (memory_refusal (number t.head)) ≡ Ok x → ⊥
-    by_name true i d = apart_from LOCAL SCALAR refl (number t.head) i h
+    by_name : (b : Bool) → among tokens LOCAL t ≡ b → named_means b (type_name t) (memory_refusal (number t.kind)) ≡ Ok x → ⊥
+    by_name true i d = apart_from LOCAL SCALAR refl (number t.kind) i h
     by_name false i d = cc
 
 leaf_whole : (room : Room) (t : Tok) (x : Typed) → is_leaf room t ≡ Ok x → is_leaf whole t ≡ Ok x
@@ -227,12 +227,12 @@ and_parts false b h = absurd cc
 barred_rule : (room : Room) → Rule tokens (leaf room) (leaf whole) (pick (too_large room) (fault_at Limit) (token_at (is_leaf room))) LEAF [] false
 barred_rule room = record {
   law = widened tokens (among tokens LEAF) (λ _. false)
-      (barred_here tokens (leaf room) (leaf room) (leaf whole) (token_at (is_leaf room)) (too_large room) (among tokens LEAF) (λ _. false) (fitting_lawful room) (token_whole room) (leaf_or_large room) (λ t u n m. inr (λ h. absurd (apart_from NUMERALS SCALAR refl (number t.head) n (and_parts (among tokens SCALAR t) (not (has_room room t)) h)))) without opens)
+      (barred_here tokens (leaf room) (leaf room) (leaf whole) (token_at (is_leaf room)) (too_large room) (among tokens LEAF) (λ _. false) (fitting_lawful room) (token_whole room) (leaf_or_large room) (λ t u n m. inr (λ h. absurd (apart_from NUMERALS SCALAR refl (number t.kind) n (and_parts (among tokens SCALAR t) (not (has_room room t)) h)))) without opens)
       (λ t e. begins_leaf t e) (λ t e. e);
 }
   where
     begins_leaf : (t : Tok) → among tokens LEAF t || too_large room t ≡ true → among tokens LEAF t ≡ true
-    begins_leaf t e = elim (or_parts (among tokens LEAF t) (too_large room t) e) [ inl p ↦ p | inr q ↦ within_of SCALAR LEAF refl (number t.head) (and_parts (among tokens SCALAR t) (not (has_room room t)) q) ]
+    begins_leaf t e = elim (or_parts (among tokens LEAF t) (too_large room t) e) [ inl p ↦ p | inr q ↦ within_of SCALAR LEAF refl (number t.kind) (and_parts (among tokens SCALAR t) (not (has_room room t)) q) ]
 
     without : (t : Tok) (ts : List Tok) (x : Typed) → leaf room (t ∷ ts) x → too_large room t ≡ false
     without t [] x s = too_large_not room t x s
@@ -256,7 +256,7 @@ leaf_rule room = subst (λ (f : Reader Tok Typed). Rule tokens (leaf room) (leaf
 -- ---- counts
 
 abbrev one_number : Tok
-one_number = sample kinds.Number heads.Number (codes "1")
+one_number = sample forms.Number kinds.Number (codes "1")
 
 counts_one : count_of 64 one_number ≡ Some 1
 unfolding counted literal
@@ -267,33 +267,33 @@ count_rule = rules.valued_rule tokens refusal not_number not_limit NUMBER (count
   where
     within : (t : Tok) → among tokens NUMBER t ≡ true → count_of 64 t ≡ None → IsWithin tokens NUMBER (count_of 64) t
     within t p q =
-        let e : number t.head ≡ number heads.Number = only (number t.head) (number heads.Number) p in
+        let e : number t.kind ≡ number kinds.Number = only (number t.kind) (number kinds.Number) p in
         record { writes = ap (contains NUMERALS) e; other = one_number; means = 1; alike = sym e; has = counts_one; real = number_real }
 
 -- ---- marks and words
 
-times_real : IsReal (word heads.Times (codes "x"))
-unfolding best_fit rest_fit label_len number_len word_len name_len meta_len dots_len other_len string_len has is_bad is_zero_name head_of word_head listed_head words_1
+times_real : IsReal (word kinds.Times (codes "x"))
+unfolding best_fit rest_fit label_len number_len word_len name_len meta_len dots_len other_len string_len has is_bad is_zero_name kind_of word_kind listed_kind words_1
 times_real = record { behind = []; some = refl; fits = refl; good = refl; class = refl }
 
-pub times_rule : Rule tokens (the heads.Times) (the heads.Times) (the_at heads.Times) (number heads.Times ∷ []) [] false
+pub times_rule : Rule tokens (the kinds.Times) (the kinds.Times) (the_at kinds.Times) (number kinds.Times ∷ []) [] false
 unfolding is_class
-times_rule = the_rule heads.Times (word heads.Times (codes "x")) refl times_real
+times_rule = the_rule kinds.Times (word kinds.Times (codes "x")) refl times_real
 
 angle_not_number : (n : ℕ) → angle_refusal n ≡ Number → ⊥
-angle_not_number n e = by_test (nat_eq n (number heads.Number)) e
+angle_not_number n e = by_test (nat_eq n (number kinds.Number)) e
   where
     by_test : (b : Bool) → cond b Profile (refusal n) ≡ Number → ⊥
     by_test true e = cc
     by_test false e = not_number n e
 
 angle_not_limit : (n : ℕ) → angle_refusal n ≡ Limit → ⊥
-angle_not_limit n e = by_test (nat_eq n (number heads.Number)) e
+angle_not_limit n e = by_test (nat_eq n (number kinds.Number)) e
   where
     by_test : (b : Bool) → cond b Profile (refusal n) ≡ Limit → ⊥
     by_test true e = cc
     by_test false e = not_limit n e
 
-pub brace_behind_angle_rule : Rule tokens brace_behind_angle brace_behind_angle brace_behind_angle_at (number heads.OpenBrace ∷ []) [] false
+pub brace_behind_angle_rule : Rule tokens brace_behind_angle brace_behind_angle brace_behind_angle_at (number kinds.OpenBrace ∷ []) [] false
 unfolding is_class
-brace_behind_angle_rule = rules.class_rule tokens angle_refusal angle_not_number angle_not_limit (number heads.OpenBrace) (mark heads.OpenBrace (codes "{")) refl open_brace_real
+brace_behind_angle_rule = rules.class_rule tokens angle_refusal angle_not_number angle_not_limit (number kinds.OpenBrace) (mark kinds.OpenBrace (codes "{")) refl open_brace_real

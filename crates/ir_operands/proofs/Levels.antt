@@ -5,7 +5,7 @@ use Rattle.std.proofs.lemmas.List.{append-nil}
 use Rattle.ir_read.specs.declared.fault.Fault.{Fault}
 use Rattle.ir_tree.specs.declared.failure.Failure.{Failure}
 use Rattle.ir_tree.specs.declared.failure.Failure.TheVariants as errors
-use Rattle.ir_read.specs.Readers.{Reader, done, follow, ◌>>=◌, folded, Fails, Gives}
+use Rattle.ir_read.specs.Readers.{Reader, done, follow, ◌>>=◌, folded, Fails, Returns}
 use Rattle.ir_read.proofs.Composed.{reads_is}
 use Rattle.ir_read.proofs.Loops.{with_front}
 use Rattle.ir_read.proofs.Stars.{behind}
@@ -48,5 +48,5 @@ then_closed {T} {A} first (Ok x) close all mid after e h =
 then_closed first (Err d) close all mid after e h = absurd cc
 
 -- the same reading, written otherwise
-pub gives_as : {X Y : Type 0} (view : X → Y) (x : Result X (Failure Fault)) (r r' : Result Y Fault) → r ≡ r' → Gives view x r → Gives view x r'
-gives_as {Y = Y} view x r r' e h = subst (λ (y : Result Y Fault). Gives view x y) e h
+pub gives_as : {X Y : Type 0} (view : X → Y) (x : Result X (Failure Fault)) (r r' : Result Y Fault) → r ≡ r' → Returns view x r → Returns view x r'
+gives_as {Y = Y} view x r r' e h = subst (λ (y : Result Y Fault). Returns view x y) e h

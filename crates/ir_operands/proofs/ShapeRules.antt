@@ -1,8 +1,8 @@
 -- The readers of shapes read them.
 use Rattle.std.proofs.Common.{◌≡◌, ℕ, zero, suc, ◌+◌, Bool, true, false, cond, ◌||◌, ◌⊎◌, inl, inr, List, [], ◌∷◌, Ok, Err, refl, sym, ap, subst, arith}
 use Rattle.std.specs.Prelude.{codes}
-use Rattle.ir_lex.specs.declared.head.Head.TheVariants as heads
-use Rattle.ir_lex.specs.Heads.{number}
+use Rattle.ir_lex.specs.declared.token_kind.TokenKind.TheVariants as kinds
+use Rattle.ir_lex.specs.TokenKinds.{number}
 use Rattle.ir_lex.specs.Tok.{Tok}
 use Rattle.ir_read.specs.Alphabet.{among, contains}
 use Rattle.ir_read.specs.Chained.{Chain, chain_at}
@@ -32,7 +32,7 @@ use Rattle.ir_operands.proofs.Subforms.{Sub, itself, then_sub, either_sub}
 
 -- what a shape begins with
 abbrev pub SHAPE : List ℕ
-SHAPE = number heads.OpenBracket ∷ number heads.OpenBrace ∷ number heads.OpenAngle ∷ number heads.Local ∷ SCALAR
+SHAPE = number kinds.OpenBracket ∷ number kinds.OpenBrace ∷ number kinds.OpenAngle ∷ number kinds.Local ∷ SCALAR
 
 -- ---- arrays and structures, over rules for their parts
 
@@ -42,7 +42,7 @@ elements_rule g w f laws line = rules.seq tokens count_rule (λ n. rules.seq tok
 
 array_rule : (g : ℕ → Form Tok Typed) (w : Form Tok Typed) (f : ℕ → Reader Tok Typed) → ((n : ℕ) → Rule tokens (g n) w (f n) SHAPE [] false) → Rule tokens (array_of g) (array_of (λ _. w)) (array_at f) OPEN_BRACKET [] false
 unfolding array_of array_at
-array_rule g w f laws = rules.seq tokens (one_rule OPEN_BRACKET line_of (mark heads.OpenBracket (codes "[")) refl open_bracket_real) (λ line. elements_rule g w f laws line) refl
+array_rule g w f laws = rules.seq tokens (one_rule OPEN_BRACKET line_of (mark kinds.OpenBracket (codes "[")) refl open_bracket_real) (λ line. elements_rule g w f laws line) refl
 
 further_rule : (packed : Bool) (g : Extent → Form Tok Typed) (w : Form Tok Typed) (f : Extent → Reader Tok Typed) → ((s : Extent) → Rule tokens (g s) w (f s) SHAPE [] false) → (s : Extent) → Rule tokens (further packed g s) (further packed (λ _. w) s) (further_at packed f s) COMMA [] false
 unfolding further further_at
@@ -51,23 +51,23 @@ further_rule packed g w f laws s = rules.seq tokens comma_rule (λ _. rules.seq 
 chained_rule : (packed : Bool) (g : Extent → Form Tok Typed) (w : Form Tok Typed) (f : Extent → Reader Tok Typed) → ((s : Extent) → Rule tokens (g s) w (f s) SHAPE [] false) → (s : Extent) → Rule tokens (Chain anywhere (further packed g) s) (Chain anywhere (further packed (λ _. w)) s) (chain_at anywhere begins (further_at packed f) s) COMMA COMMA true
 chained_rule packed g w f laws s = record {
   law = chain_lawful tokens anywhere begins begins (λ _. among tokens []) (among tokens COMMA) (further packed g) (further packed (λ _. w)) (further_at packed f) (λ s. (further_rule packed g w f laws s).law) (λ s t u n m. ap (contains COMMA) (sym m)) (λ s t d e. e)
-      (λ s next front a p t q r. apart_from [] COMMA refl (number t.head) q r)
-      (λ s t p. within_of [] COMMA refl (number t.head) p)
+      (λ s next front a p t q r. apart_from [] COMMA refl (number t.kind) q r)
+      (λ s t p. within_of [] COMMA refl (number t.kind) p)
       (λ s t d p. p)
       (λ s. ([], [], (refl, refl), tt)) s;
 }
 
-more_members_rule : (packed : Bool) (g : Extent → Form Tok Typed) (w : Form Tok Typed) (f : Extent → Reader Tok Typed) → ((s : Extent) → Rule tokens (g s) w (f s) SHAPE [] false) → (first : Written) → Rule tokens (more_members packed g first) (more_members packed (λ _. w) first) (more_members_at packed f first) (number heads.Comma ∷ CLOSE_BRACE) [] false
+more_members_rule : (packed : Bool) (g : Extent → Form Tok Typed) (w : Form Tok Typed) (f : Extent → Reader Tok Typed) → ((s : Extent) → Rule tokens (g s) w (f s) SHAPE [] false) → (first : Written) → Rule tokens (more_members packed g first) (more_members packed (λ _. w) first) (more_members_at packed f first) (number kinds.Comma ∷ CLOSE_BRACE) [] false
 unfolding more_members more_members_at
 more_members_rule packed g w f laws first = rules.seq tokens (chained_rule packed g w f laws _) (λ more. rules.seq tokens close_brace_rule (λ _. rules.nothing tokens _) refl) refl
 
-members_rule : (packed : Bool) (g : Extent → Form Tok Typed) (w : Form Tok Typed) (f : Extent → Reader Tok Typed) → ((s : Extent) → Rule tokens (g s) w (f s) SHAPE [] false) → Rule tokens (members packed g) (members packed (λ _. w)) (members_at packed f) (number heads.CloseBrace ∷ SHAPE) [] false
+members_rule : (packed : Bool) (g : Extent → Form Tok Typed) (w : Form Tok Typed) (f : Extent → Reader Tok Typed) → ((s : Extent) → Rule tokens (g s) w (f s) SHAPE [] false) → Rule tokens (members packed g) (members packed (λ _. w)) (members_at packed f) (number kinds.CloseBrace ∷ SHAPE) [] false
 unfolding members members_at
 members_rule packed g w f laws = rules.alt tokens CLOSE_BRACE (rules.seq tokens close_brace_rule (λ _. rules.nothing tokens _) refl) (rules.seq tokens (laws no_bytes) (λ first. more_members_rule packed g w f laws first.shape) refl) refl refl
 
 structure_rule : (g : Extent → Form Tok Typed) (w : Form Tok Typed) (f : Extent → Reader Tok Typed) → ((s : Extent) → Rule tokens (g s) w (f s) SHAPE [] false) → Rule tokens (structure_of g) (structure_of (λ _. w)) (structure_at f) OPEN_BRACE [] false
 unfolding structure_of structure_at
-structure_rule g w f laws = rules.seq tokens (one_rule OPEN_BRACE line_of (mark heads.OpenBrace (codes "{")) refl open_brace_real) (λ line. rules.seq tokens (members_rule false g w f laws) (λ parts. rules.nothing tokens _) refl) refl
+structure_rule g w f laws = rules.seq tokens (one_rule OPEN_BRACE line_of (mark kinds.OpenBrace (codes "{")) refl open_brace_real) (λ line. rules.seq tokens (members_rule false g w f laws) (λ parts. rules.nothing tokens _) refl) refl
 
 packed_behind_rule : (g : Extent → Form Tok Typed) (w : Form Tok Typed) (f : Extent → Reader Tok Typed) → ((s : Extent) → Rule tokens (g s) w (f s) SHAPE [] false) → (line : ℕ) → Rule tokens (packed_behind g line) (packed_behind (λ _. w) line) (packed_behind_at f line) OPEN_BRACE [] false
 unfolding packed_behind packed_behind_at
@@ -75,7 +75,7 @@ packed_behind_rule g w f laws line = rules.seq tokens brace_behind_angle_rule (�
 
 packed_rule : (g : Extent → Form Tok Typed) (w : Form Tok Typed) (f : Extent → Reader Tok Typed) → ((s : Extent) → Rule tokens (g s) w (f s) SHAPE [] false) → Rule tokens (packed_of g) (packed_of (λ _. w)) (packed_at f) OPEN_ANGLE [] false
 unfolding packed_of packed_at
-packed_rule g w f laws = rules.seq tokens (one_rule OPEN_ANGLE line_of (mark heads.OpenAngle (codes "<")) refl open_angle_real) (λ line. packed_behind_rule g w f laws line) refl
+packed_rule g w f laws = rules.seq tokens (one_rule OPEN_ANGLE line_of (mark kinds.OpenAngle (codes "<")) refl open_angle_real) (λ line. packed_behind_rule g w f laws line) refl
 
 shape_over_rule : (g : ℕ → Form Tok Typed) (p : Bool → Extent → Form Tok Typed) (l w lw : Form Tok Typed) (f : ℕ → Reader Tok Typed) (h : Bool → Extent → Reader Tok Typed) (i : Reader Tok Typed)
     → ((n : ℕ) → Rule tokens (g n) w (f n) SHAPE [] false) → ((packed : Bool) (s : Extent) → Rule tokens (p packed s) w (h packed s) SHAPE [] false) → Rule tokens l lw i LEAF [] false
@@ -234,16 +234,16 @@ bracketed_is ts x (inr (inr s)) = nested ts x (inr (inr (inl s)))
 
 brackets_open : Opens tokens BRACKETS any_shape
 brackets_open t h =
-    let o = rules.opens_either tokens OPEN_BRACKET (number heads.OpenBrace ∷ number heads.OpenAngle ∷ []) (array_of (λ _. any_shape)) (either (structure_of (λ _. any_shape)) (packed_of (λ _. any_shape))) array_opens (rules.opens_either tokens OPEN_BRACE OPEN_ANGLE (structure_of (λ _. any_shape)) (packed_of (λ _. any_shape)) structure_opens packed_opens) t h in
+    let o = rules.opens_either tokens OPEN_BRACKET (number kinds.OpenBrace ∷ number kinds.OpenAngle ∷ []) (array_of (λ _. any_shape)) (either (structure_of (λ _. any_shape)) (packed_of (λ _. any_shape))) array_opens (rules.opens_either tokens OPEN_BRACE OPEN_ANGLE (structure_of (λ _. any_shape)) (packed_of (λ _. any_shape)) structure_opens packed_opens) t h in
     (o.0, o.1, bracketed_is (t ∷ o.0) o.1 o.2, o.3)
 
 -- what begins with one of these tokens does
 one_begins : {A B : Type 0} (classes : List ℕ) (value : Tok → A) (k : A → Form Tok B) (ts : List Tok) (b : B) → form.◌>>=◌ (one_of classes value) k ts b → subset classes BRACKETS ≡ true → Begun (among tokens BRACKETS) ts
 unfolding form.◌>>=◌ is_among
 one_begins classes value k ts b ([], back, a, e, s, r) h = absurd s
-one_begins classes value k ts b (t ∷ [], back, a, e, s, r) h = subst (Begun (among tokens BRACKETS)) (sym e) (within_of classes BRACKETS h (number t.head) (passes (among tokens classes t) s))
+one_begins classes value k ts b (t ∷ [], back, a, e, s, r) h = subst (Begun (among tokens BRACKETS)) (sym e) (within_of classes BRACKETS h (number t.kind) (passes (among tokens classes t) s))
   where
-    passes : (c : Bool) → cond c (Ok (value t)) (Err (refusal (number t.head))) ≡ Ok a → c ≡ true
+    passes : (c : Bool) → cond c (Ok (value t)) (Err (refusal (number t.kind))) ≡ Ok a → c ≡ true
     passes true d = refl
     passes false d = absurd cc
 one_begins classes value k ts b (t ∷ u ∷ front, back, a, e, s, r) h = absurd s
@@ -272,14 +272,14 @@ innermost_rule room = record {
     is_false false never = refl
 
     without : (t : Tok) (ts : List Tok) (x : Typed) → leaf whole (t ∷ ts) x → among tokens BRACKETS t ≡ false
-    without t ts x s = is_false (among tokens BRACKETS t) (λ p. apart_from BRACKETS LEAF refl (number t.head) p ((leaf_rule room).law.broad.starts t ts x s))
+    without t ts x s = is_false (among tokens BRACKETS t) (λ p. apart_from BRACKETS LEAF refl (number t.kind) p ((leaf_rule room).law.broad.starts t ts x s))
 
     or_parts : (a b : Bool) → a || b ≡ true → (a ≡ true) ⊎ (b ≡ true)
     or_parts true b h = inl refl
     or_parts false b h = inr h
 
     begins_shape : (t : Tok) → among tokens LEAF t || among tokens BRACKETS t ≡ true → among tokens SHAPE t ≡ true
-    begins_shape t e = elim (or_parts (among tokens LEAF t) (among tokens BRACKETS t) e) [ inl p ↦ within_of LEAF SHAPE refl (number t.head) p | inr q ↦ within_of BRACKETS SHAPE refl (number t.head) q ]
+    begins_shape t e = elim (or_parts (among tokens LEAF t) (among tokens BRACKETS t) e) [ inl p ↦ within_of LEAF SHAPE refl (number t.kind) p | inr q ↦ within_of BRACKETS SHAPE refl (number t.kind) q ]
 
 unnested : Sub any_shape (shape_over (λ _. any_shape) (λ _ _. any_shape) (leaf whole))
 unfolding shape_over either

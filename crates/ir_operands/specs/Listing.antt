@@ -3,19 +3,19 @@ use Rattle.std.specs.Prelude.{List, [], ◌∷◌, ◌++◌}
 use Rattle.ir_lex.specs.Tok.{Tok}
 use Rattle.ir_read.specs.Readers.{Reader, ◌>>=◌, done}
 use Rattle.ir_read.specs.declared.raw.Instr.{Instr}
-use Rattle.ir_read.specs.declared.raw.Line.{Line}
+use Rattle.ir_read.specs.declared.raw.WrittenLine.{WrittenLine}
 use Rattle.ir_operands.specs.declared.listing.Listing.{Listing}
 
 -- the line of an instruction
-abbrev pub line_of : Listing → Instr → Line
+abbrev pub line_of : Listing → Instr → WrittenLine
 line_of l i = record { name = l.name; instr = i; line = l.line }
 
 -- the lines, and that of one more instruction
-abbrev pub put : Listing → Instr → List Line
+abbrev pub put : Listing → Instr → List WrittenLine
 put l i = l.lines.items ++ line_of l i ∷ []
 
 -- the instruction that is read, put behind the lines
-abbrev pub put_at : Listing → Reader Tok Instr → Reader Tok (List Line)
+abbrev pub put_at : Listing → Reader Tok Instr → Reader Tok (List WrittenLine)
 put_at l f = do
   i ← f
   done (put l i)

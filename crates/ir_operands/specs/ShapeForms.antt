@@ -1,8 +1,8 @@
 -- Shapes (LangRef, "Structure Type", "Array Type", "Opaque Structure Types"): how deep they may nest and how much room
 -- they have is handed down, so that no reading goes on with the first token that passes a limit.
 use Rattle.std.specs.Prelude.{ℕ, zero, suc, Bool, true, false, ◌&&◌, not, nat_eq, nat_lt, if◌then◌else◌, Option, Some, None, option_map, Result, Ok, Err, List, [], ◌∷◌, drop}
-use Rattle.ir_lex.specs.declared.head.Head.TheVariants as heads
-use Rattle.ir_lex.specs.Heads.{number}
+use Rattle.ir_lex.specs.declared.token_kind.TokenKind.TheVariants as kinds
+use Rattle.ir_lex.specs.TokenKinds.{number}
 use Rattle.ir_lex.specs.Rows.{begins}
 use Rattle.ir_lex.specs.Tok.{Tok}
 use Rattle.ir_read.specs.Alphabet.{among}
@@ -33,7 +33,7 @@ line_of t = t.line
 -- ---- scalars and type names
 
 abbrev pub is_pointer : Tok → Bool
-is_pointer t = nat_eq (number t.head) (number heads.Ptr)
+is_pointer t = nat_eq (number t.kind) (number kinds.Ptr)
 
 abbrev pub scalar_align : Tok → Align
 scalar_align t = if is_pointer t then Eight else align_by (width t)
@@ -65,7 +65,7 @@ leaf room = token (is_leaf room)
 -- ---- counts
 
 abbrev pub NUMBER : List ℕ
-NUMBER = number heads.Number ∷ []
+NUMBER = number kinds.Number ∷ []
 
 -- a literal that isn't negative
 unfoldable pub counted : ℕ → List ℕ → Option ℕ
@@ -81,21 +81,21 @@ count = token (is_valued tokens refusal NUMBER (count_of 64))
 -- ---- arrays and structures, over what their parts are
 
 abbrev pub OPEN_BRACKET : List ℕ
-OPEN_BRACKET = number heads.OpenBracket ∷ []
+OPEN_BRACKET = number kinds.OpenBracket ∷ []
 
 abbrev pub OPEN_BRACE : List ℕ
-OPEN_BRACE = number heads.OpenBrace ∷ []
+OPEN_BRACE = number kinds.OpenBrace ∷ []
 
 abbrev pub OPEN_ANGLE : List ℕ
-OPEN_ANGLE = number heads.OpenAngle ∷ []
+OPEN_ANGLE = number kinds.OpenAngle ∷ []
 
 -- N x shape ]
 unfoldable pub elements : (ℕ → Form Tok Typed) → ℕ → Form Tok Typed
 elements of line = do
   n ← count
-  _ ← the heads.Times
+  _ ← the kinds.Times
   e ← of n
-  _ ← the heads.CloseBracket
+  _ ← the kinds.CloseBracket
   gives (typed (array n e.shape) line)
 
 -- [ N x shape ]
@@ -110,7 +110,7 @@ anywhere s = true
 -- , shape
 unfoldable pub further : Bool → (Extent → Form Tok Typed) → Extent → Form Tok (Written × Extent)
 further packed part s = do
-  _ ← the heads.Comma
+  _ ← the kinds.Comma
   p ← part s
   gives (p.shape, grown packed s (extent_of p.shape))
 
@@ -118,14 +118,14 @@ further packed part s = do
 unfoldable pub more_members : Bool → (Extent → Form Tok Typed) → Written → Form Tok (List Written)
 more_members packed part first = do
   more ← Chain anywhere (further packed part) (grown packed no_bytes (extent_of first))
-  _ ← the heads.CloseBrace
+  _ ← the kinds.CloseBrace
   gives (first ∷ more)
 
 -- [shape {, shape}] }
 unfoldable pub members : Bool → (Extent → Form Tok Typed) → Form Tok (List Written)
 members packed part = either
     (do
-      _ ← the heads.CloseBrace
+      _ ← the kinds.CloseBrace
       gives [])
     (do
       first ← part no_bytes
@@ -140,17 +140,17 @@ structure_of part = do
 
 -- behind < a number begins a vector, which is left out
 abbrev pub angle_refusal : ℕ → TokenFault
-angle_refusal class = if nat_eq class (number heads.Number) then Profile else refusal class
+angle_refusal class = if nat_eq class (number kinds.Number) then Profile else refusal class
 
 abbrev pub brace_behind_angle : Form Tok (Unit {0})
-brace_behind_angle = token (is_class tokens angle_refusal (number heads.OpenBrace))
+brace_behind_angle = token (is_class tokens angle_refusal (number kinds.OpenBrace))
 
 -- { .. } >
 unfoldable pub packed_behind : (Extent → Form Tok Typed) → ℕ → Form Tok Typed
 packed_behind part line = do
   _ ← brace_behind_angle
   parts ← members true part
-  _ ← the heads.CloseAngle
+  _ ← the kinds.CloseAngle
   gives (typed (structure true (parts_of parts)) line)
 
 -- < { .. } >

@@ -1,7 +1,7 @@
 -- What the readers of shapes give.
 use Rattle.std.specs.Prelude.{ℕ, zero, suc, Bool, true, false, List, [], ◌∷◌}
-use Rattle.ir_lex.specs.declared.head.Head.TheVariants as heads
-use Rattle.ir_lex.specs.Heads.{number}
+use Rattle.ir_lex.specs.declared.token_kind.TokenKind.TheVariants as kinds
+use Rattle.ir_lex.specs.TokenKinds.{number}
 use Rattle.ir_lex.specs.Tok.{Tok}
 use Rattle.ir_read.specs.Alphabet.{among}
 use Rattle.ir_read.specs.Chained.{chain_at}
@@ -19,7 +19,7 @@ use Rattle.ir_operands.specs.ShapeForms.{typed, line_of, leaf_means, NUMBER, cou
 use Rattle.ir_read.specs.Shapes.{Written, array, structure, parts_of}
 
 abbrev pub CLOSE_BRACE : List ℕ
-CLOSE_BRACE = number heads.CloseBrace ∷ []
+CLOSE_BRACE = number kinds.CloseBrace ∷ []
 
 abbrev pub leaf_at : Room → Reader Tok Typed
 leaf_at room = token_at (leaf_means room)
@@ -34,9 +34,9 @@ count_at = token_at (is_valued tokens refusal NUMBER (count_of 64))
 unfoldable pub elements_at : (ℕ → Reader Tok Typed) → ℕ → Reader Tok Typed
 elements_at of line = do
   n ← count_at
-  _ ← the_at heads.Times
+  _ ← the_at kinds.Times
   e ← of n
-  _ ← the_at heads.CloseBracket
+  _ ← the_at kinds.CloseBracket
   done (typed (array n e.shape) line)
 
 unfoldable pub array_at : (ℕ → Reader Tok Typed) → Reader Tok Typed
@@ -49,18 +49,18 @@ unfoldable pub array_head_at : Reader Tok (ℕ × ℕ)
 array_head_at = do
   line ← one_of_at OPEN_BRACKET line_of
   n ← count_at
-  _ ← the_at heads.Times
+  _ ← the_at kinds.Times
   done (line, n)
 
 -- ], behind an element
 abbrev pub closed_array_at : ℕ → ℕ → Written → Reader Tok Typed
 closed_array_at n line e = do
-  _ ← the_at heads.CloseBracket
+  _ ← the_at kinds.CloseBracket
   done (typed (array n e) line)
 
 unfoldable pub further_at : Bool → (Extent → Reader Tok Typed) → Extent → Reader Tok (Written × Extent)
 further_at packed part s = do
-  _ ← the_at heads.Comma
+  _ ← the_at kinds.Comma
   p ← part s
   done (p.shape, grown packed s (extent_of p.shape))
 
@@ -70,13 +70,13 @@ begins s = among tokens COMMA
 unfoldable pub more_members_at : Bool → (Extent → Reader Tok Typed) → Written → Reader Tok (List Written)
 more_members_at packed part first = do
   more ← chain_at anywhere begins (further_at packed part) (grown packed no_bytes (extent_of first))
-  _ ← the_at heads.CloseBrace
+  _ ← the_at kinds.CloseBrace
   done (first ∷ more)
 
 unfoldable pub members_at : Bool → (Extent → Reader Tok Typed) → Reader Tok (List Written)
 members_at packed part = pick (among tokens CLOSE_BRACE)
     (do
-      _ ← the_at heads.CloseBrace
+      _ ← the_at kinds.CloseBrace
       done [])
     (do
       first ← part no_bytes
@@ -89,7 +89,7 @@ structure_at part = do
   done (typed (structure false (parts_of parts)) line)
 
 abbrev pub brace_behind_angle_at : Reader Tok (Unit {0})
-brace_behind_angle_at = token_at (is_class tokens angle_refusal (number heads.OpenBrace))
+brace_behind_angle_at = token_at (is_class tokens angle_refusal (number kinds.OpenBrace))
 
 -- < {, the line of the first
 unfoldable pub packed_head_at : Reader Tok ℕ
@@ -102,7 +102,7 @@ unfoldable pub packed_behind_at : (Extent → Reader Tok Typed) → ℕ → Read
 packed_behind_at part line = do
   _ ← brace_behind_angle_at
   parts ← members_at true part
-  _ ← the_at heads.CloseAngle
+  _ ← the_at kinds.CloseAngle
   done (typed (structure true (parts_of parts)) line)
 
 unfoldable pub packed_at : (Extent → Reader Tok Typed) → Reader Tok Typed

@@ -1,8 +1,8 @@
 -- Operands, with constant addresses among them (LangRef, "Constant Expressions"), over what spells a shape.
 use Rattle.std.specs.Prelude.{ℕ, Bool, false, ◌||◌, nat_eq, Option, option_map, List, [], ◌∷◌, reverse}
 use Rattle.std.specs.List.{fold}
-use Rattle.ir_lex.specs.declared.head.Head.TheVariants as heads
-use Rattle.ir_lex.specs.Heads.{number}
+use Rattle.ir_lex.specs.declared.token_kind.TokenKind.TheVariants as kinds
+use Rattle.ir_lex.specs.TokenKinds.{number}
 use Rattle.ir_lex.specs.Tok.{Tok}
 use Rattle.ir_tree.specs.declared.operand.Reg.{Reg}
 use Rattle.ir_read.specs.Forms.{Form, ◌>>=◌, either, gives, token, Star}
@@ -21,12 +21,12 @@ use Rattle.ir_read.specs.Operands.{type_refusal, reg, integer, global_named, sim
 
 -- ptr
 abbrev pub pointer : Form Tok (Unit {0})
-pointer = token (is_class tokens type_refusal (number heads.Ptr))
+pointer = token (is_class tokens type_refusal (number kinds.Ptr))
 
 -- ---- flags of getelementptr
 
 abbrev pub is_inbounds : Tok → Bool
-is_inbounds t = nat_eq (number t.head) (number heads.Inbounds)
+is_inbounds t = nat_eq (number t.kind) (number kinds.Inbounds)
 
 abbrev pub or_inbounds : Bool → Bool → Bool
 or_inbounds any one = any || one
@@ -40,7 +40,7 @@ stepping = do
 -- ---- indices of constant addresses
 
 abbrev pub NUMBER : List ℕ
-NUMBER = number heads.Number ∷ []
+NUMBER = number kinds.Number ∷ []
 
 abbrev pub index_of : ℕ → Tok → Option Index
 index_of w t = option_map (λ bits. record { width = w; bits = bits; line = t.line }) (literal w t.text)
@@ -51,14 +51,14 @@ index_number w = token (is_valued tokens refusal NUMBER (index_of w))
 -- , iN Number
 unfoldable pub index : Form Tok Index
 index = do
-  _ ← the heads.Comma
+  _ ← the kinds.Comma
   w ← integer
   index_number w
 
 -- ---- constant addresses
 
 abbrev pub GLOBAL : List ℕ
-GLOBAL = number heads.Global ∷ number heads.NumberedGlobal ∷ number heads.NumberedDefinition ∷ []
+GLOBAL = number kinds.Global ∷ number kinds.NumberedGlobal ∷ number kinds.NumberedDefinition ∷ []
 
 abbrev pub global : Form Tok Tok
 global = token (is_valued tokens refusal GLOBAL global_named)
@@ -73,7 +73,7 @@ steps name levels = record { name = name; levels = levels }
 unfoldable pub closing_one : Typed → Form Tok Level
 closing_one typed = do
   indices ← Star index
-  _ ← the heads.CloseParen
+  _ ← the kinds.CloseParen
   gives (level typed indices)
 
 -- what closes these levels, one after another
@@ -96,16 +96,16 @@ module _ (shape : Form Tok Typed) where
   unfoldable pub opened : Form Tok Typed
   opened = do
     _ ← stepping
-    _ ← the heads.OpenParen
+    _ ← the kinds.OpenParen
     typed ← shape
-    _ ← the heads.Comma
+    _ ← the kinds.Comma
     _ ← pointer
     gives typed
 
   -- getelementptr {inbounds/nuw/nusw} ( shape , ptr
   unfoldable pub opening : Form Tok Typed
   opening = do
-    _ ← the heads.GetElementPtr
+    _ ← the kinds.GetElementPtr
     opened
 
   -- behind the first level

@@ -1,8 +1,8 @@
 -- What the readers of operands give.
 use Rattle.std.specs.Prelude.{ℕ, Bool, false, List, [], ◌∷◌, reverse}
 use Rattle.std.specs.List.{fold}
-use Rattle.ir_lex.specs.declared.head.Head.TheVariants as heads
-use Rattle.ir_lex.specs.Heads.{number}
+use Rattle.ir_lex.specs.declared.token_kind.TokenKind.TheVariants as kinds
+use Rattle.ir_lex.specs.TokenKinds.{number}
 use Rattle.ir_lex.specs.Tok.{Tok}
 use Rattle.ir_tree.specs.declared.operand.Reg.{Reg}
 use Rattle.ir_read.specs.Alphabet.{among}
@@ -23,10 +23,10 @@ use Rattle.ir_operands.specs.ShapeFormsAt.{memory_shape_at}
 use Rattle.ir_operands.specs.Values.{is_inbounds, or_inbounds, NUMBER, index_of, GLOBAL, level, steps}
 
 abbrev pub ADDRESS : List ℕ
-ADDRESS = number heads.GetElementPtr ∷ []
+ADDRESS = number kinds.GetElementPtr ∷ []
 
 abbrev pub pointer_at : Reader Tok (Unit {0})
-pointer_at = token_at (is_class tokens type_refusal (number heads.Ptr))
+pointer_at = token_at (is_class tokens type_refusal (number kinds.Ptr))
 
 unfoldable pub stepping_at : Reader Tok Bool
 stepping_at = do
@@ -38,7 +38,7 @@ index_number_at w = token_at (is_valued tokens refusal NUMBER (index_of w))
 
 unfoldable pub index_at : Reader Tok Index
 index_at = do
-  _ ← the_at heads.Comma
+  _ ← the_at kinds.Comma
   w ← integer_at
   index_number_at w
 
@@ -48,7 +48,7 @@ indices_at = star_at (among tokens COMMA) index_at
 unfoldable pub closing_one_at : Typed → Reader Tok Level
 closing_one_at typed = do
   indices ← indices_at
-  _ ← the_at heads.CloseParen
+  _ ← the_at kinds.CloseParen
   done (level typed indices)
 
 abbrev pub closing_at : List Typed → Reader Tok (List Level)
@@ -61,15 +61,15 @@ closing_at (typed ∷ outer) = do
 unfoldable pub opened_at : Reader Tok Typed
 opened_at = do
   _ ← stepping_at
-  _ ← the_at heads.OpenParen
+  _ ← the_at kinds.OpenParen
   typed ← memory_shape_at
-  _ ← the_at heads.Comma
+  _ ← the_at kinds.Comma
   _ ← pointer_at
   done typed
 
 unfoldable pub opening_at : Reader Tok Typed
 opening_at = do
-  _ ← the_at heads.GetElementPtr
+  _ ← the_at kinds.GetElementPtr
   opened_at
 
 abbrev pub openings_at : Reader Tok (List Typed)

@@ -6,10 +6,10 @@
 ghost use Rattle.std.specs.Prelude.{◌≡◌, ◌++◌, ◌∷◌, [], IfErr, OnOk};
 ghost use Rattle.ir_tree.specs.declared.failure.Failure.TheVariants.{NoMemory};
 
-use ir_read::{Item, ReadError};
+use ir_read::{Item, ReaderError};
 
 /// Adds a value, or says that memory ran out.
-pub fn push<T: Drop>(list: &mut Vec<T>, value: T) -> Result<(), ReadError>
+pub fn push<T: Drop>(list: &mut Vec<T>, value: T) -> Result<(), ReaderError>
     ensures pushed { OnOk result (list.new.items ≡ list.old.items ++ value ∷ []) }
     ensures memory { IfErr result (λ e. e ≡ NoMemory) }
 {
@@ -20,7 +20,7 @@ pub fn push<T: Drop>(list: &mut Vec<T>, value: T) -> Result<(), ReadError>
 /// Adds an item, or says that memory ran out.
 ///
 /// One call for all readers of items, so that what is proved of a list of items is proved once.
-pub fn push_item(items: &mut Vec<Item>, item: Item) -> Result<(), ReadError>
+pub fn push_item(items: &mut Vec<Item>, item: Item) -> Result<(), ReaderError>
     ensures pushed { OnOk result (items.new.items ≡ items.old.items ++ item ∷ []) }
     ensures memory { IfErr result (λ e. e ≡ NoMemory) }
 {

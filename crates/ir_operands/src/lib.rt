@@ -1,4 +1,4 @@
-//! Reads shapes and operands, by the class of the first word.
+//! Reads shapes and operands, by the kind of the first word.
 //!
 //! Below stand the trees of what is written, with the readers of names, types, numbers and operands of one token and
 //! the laws of forms (`ir_read`), the tokens of `ir_lex` and the types of `ir_tree`. `shapes` reads arrays, structures

@@ -5,7 +5,7 @@ ghost use Rattle.ir_tree.specs.declared.failure.Failure.TheVariants.{NoMemory};
 ghost use Rattle.ir_operands.specs.Listing.{put};
 
 use crate::adding::push;
-use ir_read::{Instr, Line, Name, ReadError};
+use ir_read::{Instr, Name, ReaderError, WrittenLine};
 
 /// The lines of a block so far, and what stands before the next instruction: the name of its result,
 /// where it has one, and the line of its first token.
@@ -13,19 +13,19 @@ use ir_read::{Instr, Line, Name, ReadError};
 /// The readers of instructions put them here, so that none is handed from reader to reader.
 #[derive(Drop)]
 pub struct Listing {
-    pub lines: Vec<Line>,
+    pub lines: Vec<WrittenLine>,
     pub name: Option<Name>,
     pub line: u32,
 }
 
 impl Listing {
     /// Adds the line of this instruction. The name before it is used up.
-    pub fn put(&mut self, instr: Instr) -> Result<(), ReadError>
+    pub fn put(&mut self, instr: Instr) -> Result<(), ReaderError>
         ensures put { OnOk result (self.new.lines.items ≡ put self.old instr) }
         ensures memory { IfErr result (λ e. e ≡ NoMemory) }
     {
         let name = self.name.take();
         let line = self.line;
-        push(&mut self.lines, Line { name, instr, line })
+        push(&mut self.lines, WrittenLine { name, instr, line })
     }
 }

@@ -3,9 +3,9 @@
 //! limit is refused.
 
 ghost use Rattle.std.specs.Prelude.{◌≡◌, ◌*◌, ◌≤◌, [], ◌∷◌, IfOk, true, false};
-ghost use Rattle.ir_lex.specs.Heads.{number};
+ghost use Rattle.ir_lex.specs.TokenKinds.{number};
 ghost use Rattle.ir_lex.specs.Tok.{tok};
-ghost use Rattle.ir_read.specs.Readers.{Gives, view_result};
+ghost use Rattle.ir_read.specs.Readers.{Returns, view_result};
 ghost use Rattle.ir_read.specs.Rules.{is_valued};
 ghost use Rattle.ir_read.specs.Classes.{tokens, refusal, one_of_at};
 ghost use Rattle.ir_operands.specs.declared.extents.Room.{Room};
@@ -16,9 +16,9 @@ ghost use Rattle.ir_operands.specs.ShapeFormsAt.{array_at, array_head_at, closed
 ghost use Rattle.ir_read.specs.Shapes.{array, parts_of, structure};
 
 use crate::extents::{Align, Extent, Room};
-use ir_lex::{Head, Token};
+use ir_lex::{Token, TokenKind};
 use ir_read::{
-    Fault, ReadError, Shape, TokenFault, Tokens, Typed, decimal, expect, literal, memory_refusal,
+    Fault, ReaderError, Shape, TokenFault, Tokens, Typed, decimal, expect, literal, memory_refusal,
     named, refusal, width,
 };
 use std::alloc::{AllocError, Global};
@@ -37,7 +37,7 @@ fn scalar_of(t: &Token) -> Measured
     ensures measured { result.extent ≡ extent_of result.typed.shape }
 {
     let line = t.line;
-    if t.head.is(Head::Ptr) {
+    if t.kind.is(TokenKind::Ptr) {
         Measured {
             typed: Typed {
                 shape: Shape::ptr(),
@@ -69,8 +69,8 @@ fn leaf_means(
     ensures measured { IfOk result (λ means. IfOk means (λ x. x.extent ≡ extent_of x.typed.shape)) }
     ensures fits { IfOk result (λ means. IfOk means (λ x. Fits room x.extent)) }
 {
-    match t.head {
-        Head::MemoryInteger | Head::Ptr => {
+    match t.kind {
+        TokenKind::MemoryInteger | TokenKind::Ptr => {
             let scalar = scalar_of(t);
             if room.room_for(scalar.extent.align) > 1 {
                 Ok(Ok(scalar))
@@ -78,7 +78,7 @@ fn leaf_means(
                 Ok(Err(TokenFault::Limit))
             }
         }
-        Head::Local => match named(alloc, t)? {
+        TokenKind::Local => match named(alloc, t)? {
             None => Ok(Err(TokenFault::Number)),
             Some(name) => Ok(Ok(Measured {
                 typed: Typed {
@@ -93,35 +93,35 @@ fn leaf_means(
 }
 
 /// Takes a scalar or a type name.
-pub fn leaf_at(alloc: Global, room: Room, tokens: &mut Tokens) -> Result<Measured, ReadError>
+pub fn leaf_at(alloc: Global, room: Room, tokens: &mut Tokens) -> Result<Measured, ReaderError>
     requires { IsRoom room }
-    ensures exact { Gives (λ x. (x.typed, tokens.new)) result (leaf_at room tokens.old) }
+    ensures exact { Returns (λ x. (x.typed, tokens.new)) result (leaf_at room tokens.old) }
     ensures measured { IfOk result (λ x. x.extent ≡ extent_of x.typed.shape) }
     ensures fits { IfOk result (λ x. Fits room x.extent) }
 {
     let left = tokens.left();
     match tokens.take() {
-        None => Err(ReadError::Fault(Fault {
+        None => Err(ReaderError::Fault(Fault {
             left,
             kind: TokenFault::Syntax,
         })),
         Some(t) => match leaf_means(alloc, room, &t)? {
             Ok(x) => Ok(x),
-            Err(kind) => Err(ReadError::Fault(Fault { left, kind })),
+            Err(kind) => Err(ReaderError::Fault(Fault { left, kind })),
         },
     }
 }
 
 /// Takes a scalar or a type name where no array and no structure may begin.
 #[tactic(auto, unfolding(crate::specs::ShapeFormsAt::innermost_at))]
-fn innermost_at(alloc: Global, room: Room, tokens: &mut Tokens) -> Result<Measured, ReadError>
+fn innermost_at(alloc: Global, room: Room, tokens: &mut Tokens) -> Result<Measured, ReaderError>
     requires { IsRoom room }
-    ensures exact { Gives (λ x. (x.typed, tokens.new)) result (innermost_at room tokens.old) }
+    ensures exact { Returns (λ x. (x.typed, tokens.new)) result (innermost_at room tokens.old) }
     ensures measured { IfOk result (λ x. x.extent ≡ extent_of x.typed.shape) }
     ensures fits { IfOk result (λ x. Fits room x.extent) }
 {
     if tokens.comes_bracket() {
-        Err(ReadError::Fault(Fault {
+        Err(ReaderError::Fault(Fault {
             left: tokens.left(),
             kind: TokenFault::Limit,
         }))
@@ -149,51 +149,51 @@ pub fn counted(width: u8, text: &[u8]) -> Option<u64>
 fn count_means(t: &Token) -> Result<u64, TokenFault>
     ensures { result ≡ is_valued tokens refusal NUMBER (count_of 64) (tok t.now) }
 {
-    if t.head.is(Head::Number) {
+    if t.kind.is(TokenKind::Number) {
         match counted(64, t.text) {
             None => Err(TokenFault::Number),
             Some(n) => Ok(n),
         }
     } else {
-        Err(refusal(t.head))
+        Err(refusal(t.kind))
     }
 }
 
 /// Takes a count, from 0 to `2^64 - 1`.
-pub fn count_at(tokens: &mut Tokens) -> Result<u64, ReadError>
-    ensures { Gives (λ x. (x, tokens.new)) result (count_at tokens.old) }
+pub fn count_at(tokens: &mut Tokens) -> Result<u64, ReaderError>
+    ensures { Returns (λ x. (x, tokens.new)) result (count_at tokens.old) }
 {
     let left = tokens.left();
     match tokens.take() {
-        None => Err(ReadError::Fault(Fault {
+        None => Err(ReaderError::Fault(Fault {
             left,
             kind: TokenFault::Syntax,
         })),
         Some(t) => match count_means(&t) {
             Ok(x) => Ok(x),
-            Err(kind) => Err(ReadError::Fault(Fault { left, kind })),
+            Err(kind) => Err(ReaderError::Fault(Fault { left, kind })),
         },
     }
 }
 
-/// Takes a token of this class; the answer is its line.
+/// Takes a token of this kind; the answer is its line.
 #[tactic(auto, unfolding(ir_read::specs::Rules::is_among))]
-pub fn line_at(wanted: Head, tokens: &mut Tokens) -> Result<u32, ReadError>
-    ensures { Gives (λ x. (x, tokens.new)) result (one_of_at (number wanted ∷ []) line_of tokens.old) }
+pub fn line_at(wanted: TokenKind, tokens: &mut Tokens) -> Result<u32, ReaderError>
+    ensures { Returns (λ x. (x, tokens.new)) result (one_of_at (number wanted ∷ []) line_of tokens.old) }
 {
     let left = tokens.left();
     match tokens.take() {
-        None => Err(ReadError::Fault(Fault {
+        None => Err(ReaderError::Fault(Fault {
             left,
             kind: TokenFault::Syntax,
         })),
         Some(t) => {
-            if t.head.is(wanted) {
+            if t.kind.is(wanted) {
                 Ok(t.line)
             } else {
-                Err(ReadError::Fault(Fault {
+                Err(ReaderError::Fault(Fault {
                     left,
-                    kind: refusal(t.head),
+                    kind: refusal(t.kind),
                 }))
             }
         }
@@ -201,33 +201,33 @@ pub fn line_at(wanted: Head, tokens: &mut Tokens) -> Result<u32, ReadError>
 }
 
 /// Why a token can't stand behind a `<`: a number would begin a vector, which is left out.
-pub fn angle_refusal(head: Head) -> TokenFault
+pub fn angle_refusal(head: TokenKind) -> TokenFault
     ensures { result ≡ angle_refusal (number head) }
 {
     match head {
-        Head::Number => TokenFault::Profile,
+        TokenKind::Number => TokenFault::Profile,
         _ => refusal(head),
     }
 }
 
 /// Takes the `{` behind a `<`.
 #[tactic(auto, unfolding(ir_read::specs::Rules::is_class))]
-pub fn brace_behind_angle_at(tokens: &mut Tokens) -> Result<(), ReadError>
-    ensures { Gives (λ x. (tt, tokens.new)) result (brace_behind_angle_at tokens.old) }
+pub fn brace_behind_angle_at(tokens: &mut Tokens) -> Result<(), ReaderError>
+    ensures { Returns (λ x. (tt, tokens.new)) result (brace_behind_angle_at tokens.old) }
 {
     let left = tokens.left();
     match tokens.take() {
-        None => Err(ReadError::Fault(Fault {
+        None => Err(ReaderError::Fault(Fault {
             left,
             kind: TokenFault::Syntax,
         })),
         Some(t) => {
-            if t.head.is(Head::OpenBrace) {
+            if t.kind.is(TokenKind::OpenBrace) {
                 Ok(())
             } else {
-                Err(ReadError::Fault(Fault {
+                Err(ReaderError::Fault(Fault {
                     left,
-                    kind: angle_refusal(t.head),
+                    kind: angle_refusal(t.kind),
                 }))
             }
         }
@@ -250,12 +250,12 @@ struct Member {
 
 /// Reads `[ N x`: the line of the bracket, and the count.
 #[tactic(auto, unfolding(crate::specs::ShapeFormsAt::array_head_at))]
-fn array_head_at(tokens: &mut Tokens) -> Result<(u32, u64), ReadError>
-    ensures { Gives (λ x. (x, tokens.new)) result (array_head_at tokens.old) }
+fn array_head_at(tokens: &mut Tokens) -> Result<(u32, u64), ReaderError>
+    ensures { Returns (λ x. (x, tokens.new)) result (array_head_at tokens.old) }
 {
-    let line = line_at(Head::OpenBracket, tokens)?;
+    let line = line_at(TokenKind::OpenBracket, tokens)?;
     let count = count_at(tokens)?;
-    expect(Head::Times, tokens)?;
+    expect(TokenKind::Times, tokens)?;
     Ok((line, count))
 }
 
@@ -266,14 +266,14 @@ fn closed_array_at(
     line: u32,
     element: Measured,
     tokens: &mut Tokens,
-) -> Result<Measured, ReadError>
+) -> Result<Measured, ReaderError>
     requires size { count * element.extent.size ≤ 2147483648 }
     requires measured { element.extent ≡ extent_of element.typed.shape }
-    ensures exact { Gives (λ x. (x.typed, tokens.new)) result (closed_array_at count line element.typed.shape tokens.old) }
+    ensures exact { Returns (λ x. (x.typed, tokens.new)) result (closed_array_at count line element.typed.shape tokens.old) }
     ensures measured { IfOk result (λ x. x.extent ≡ extent_of x.typed.shape) }
     ensures fits { (room : Room) → Fits room (extent (count * element.extent.size) element.extent.align) → IfOk result (λ x. Fits room x.extent) }
 {
-    expect(Head::CloseBracket, tokens)?;
+    expect(TokenKind::CloseBracket, tokens)?;
     let extent = element.extent.repeated(count);
     let shape = Shape::array(alloc, count, element.typed.shape)?;
     Ok(Measured {
@@ -301,10 +301,10 @@ fn structure_of(packed: bool, line: u32, members: Members) -> Measured
 
 /// Reads `< {`: the line of the first.
 #[tactic(auto, unfolding(crate::specs::ShapeFormsAt::packed_head_at))]
-fn packed_head_at(tokens: &mut Tokens) -> Result<u32, ReadError>
-    ensures { Gives (λ x. (x, tokens.new)) result (packed_head_at tokens.old) }
+fn packed_head_at(tokens: &mut Tokens) -> Result<u32, ReaderError>
+    ensures { Returns (λ x. (x, tokens.new)) result (packed_head_at tokens.old) }
 {
-    let line = line_at(Head::OpenAngle, tokens)?;
+    let line = line_at(TokenKind::OpenAngle, tokens)?;
     brace_behind_angle_at(tokens)?;
     Ok(line)
 }
@@ -317,9 +317,9 @@ fn array_at(
     depth: u8,
     room: Room,
     tokens: &mut Tokens,
-) -> Result<Measured, ReadError>
+) -> Result<Measured, ReaderError>
     requires { IsRoom room }
-    ensures exact { Gives (λ x. (x.typed, tokens.new)) result (array_at (λ n. shape_at depth (shared n room)) tokens.old) }
+    ensures exact { Returns (λ x. (x.typed, tokens.new)) result (array_at (λ n. shape_at depth (shared n room)) tokens.old) }
     ensures measured { IfOk result (λ x. x.extent ≡ extent_of x.typed.shape) }
     ensures fits { IfOk result (λ x. Fits room x.extent) }
 {
@@ -338,14 +338,14 @@ fn member_at(
     room: Room,
     before: Extent,
     tokens: &mut Tokens,
-) -> Result<Member, ReadError>
+) -> Result<Member, ReaderError>
     requires room { IsRoom room }
     requires before { Fits room before }
-    ensures exact { Gives (λ x. ((x.shape, x.extent), tokens.new)) result (further_at packed (λ s. shape_at depth (left packed room s)) before tokens.old) }
+    ensures exact { Returns (λ x. ((x.shape, x.extent), tokens.new)) result (further_at packed (λ s. shape_at depth (left packed room s)) before tokens.old) }
     ensures measured { IfOk result (λ x. x.extent ≡ grown packed before (extent_of x.shape)) }
     ensures fits { IfOk result (λ x. Fits room x.extent) }
 {
-    expect(Head::Comma, tokens)?;
+    expect(TokenKind::Comma, tokens)?;
     let member = shape_at(alloc, depth, room.left(packed, before), tokens)?;
     Ok(Member {
         shape: member.typed.shape,
@@ -363,23 +363,23 @@ fn more_members_at(
     room: Room,
     first: Member,
     tokens: &mut Tokens,
-) -> Result<Members, ReadError>
+) -> Result<Members, ReaderError>
     requires room { IsRoom room }
     requires measured { first.extent ≡ grown packed no_bytes (extent_of first.shape) }
     requires fits { Fits room first.extent }
-    ensures exact { Gives (λ x. (x.shapes.items, tokens.new)) result (more_members_at packed (λ s. shape_at depth (left packed room s)) first.shape tokens.old) }
+    ensures exact { Returns (λ x. (x.shapes.items, tokens.new)) result (more_members_at packed (λ s. shape_at depth (left packed room s)) first.shape tokens.old) }
     ensures measured { IfOk result (λ x. x.extent ≡ members_extent packed no_bytes (parts_of x.shapes.items)) }
     ensures fits { IfOk result (λ x. Fits room x.extent) }
 {
     let mut extent = first.extent;
     let mut shapes = Vec::new(alloc);
     shapes.push(first.shape)?;
-    'each: while tokens.comes(Head::Comma) {
+    'each: while tokens.comes(TokenKind::Comma) {
         let member = member_at(alloc, packed, depth, room, extent, tokens)?;
         extent = member.extent;
         shapes.push(member.shape)?;
     }
-    expect(Head::CloseBrace, tokens)?;
+    expect(TokenKind::CloseBrace, tokens)?;
     Ok(Members { shapes, extent })
 }
 
@@ -392,15 +392,15 @@ fn members_at(
     depth: u8,
     room: Room,
     tokens: &mut Tokens,
-) -> Result<Members, ReadError>
+) -> Result<Members, ReaderError>
     requires { IsRoom room }
-    ensures exact { Gives (λ x. (x.shapes.items, tokens.new)) result (members_at packed (λ s. shape_at depth (left packed room s)) tokens.old) }
+    ensures exact { Returns (λ x. (x.shapes.items, tokens.new)) result (members_at packed (λ s. shape_at depth (left packed room s)) tokens.old) }
     ensures measured { IfOk result (λ x. x.extent ≡ members_extent packed no_bytes (parts_of x.shapes.items)) }
     ensures fits { IfOk result (λ x. Fits room x.extent) }
 {
     let none = Extent::no_bytes();
-    if tokens.comes(Head::CloseBrace) {
-        expect(Head::CloseBrace, tokens)?;
+    if tokens.comes(TokenKind::CloseBrace) {
+        expect(TokenKind::CloseBrace, tokens)?;
         return Ok(Members {
             shapes: Vec::new(alloc),
             extent: none,
@@ -422,13 +422,13 @@ fn structure_at(
     depth: u8,
     room: Room,
     tokens: &mut Tokens,
-) -> Result<Measured, ReadError>
+) -> Result<Measured, ReaderError>
     requires { IsRoom room }
-    ensures exact { Gives (λ x. (x.typed, tokens.new)) result (structure_at (λ s. shape_at depth (left false room s)) tokens.old) }
+    ensures exact { Returns (λ x. (x.typed, tokens.new)) result (structure_at (λ s. shape_at depth (left false room s)) tokens.old) }
     ensures measured { IfOk result (λ x. x.extent ≡ extent_of x.typed.shape) }
     ensures fits { IfOk result (λ x. Fits room x.extent) }
 {
-    let line = line_at(Head::OpenBrace, tokens)?;
+    let line = line_at(TokenKind::OpenBrace, tokens)?;
     let members = members_at(alloc, false, depth, room, tokens)?;
     Ok(structure_of(false, line, members))
 }
@@ -441,15 +441,15 @@ fn packed_at(
     depth: u8,
     room: Room,
     tokens: &mut Tokens,
-) -> Result<Measured, ReadError>
+) -> Result<Measured, ReaderError>
     requires { IsRoom room }
-    ensures exact { Gives (λ x. (x.typed, tokens.new)) result (packed_at (λ s. shape_at depth (left true room s)) tokens.old) }
+    ensures exact { Returns (λ x. (x.typed, tokens.new)) result (packed_at (λ s. shape_at depth (left true room s)) tokens.old) }
     ensures measured { IfOk result (λ x. x.extent ≡ extent_of x.typed.shape) }
     ensures fits { IfOk result (λ x. Fits room x.extent) }
 {
     let line = packed_head_at(tokens)?;
     let members = members_at(alloc, true, depth, room, tokens)?;
-    expect(Head::CloseAngle, tokens)?;
+    expect(TokenKind::CloseAngle, tokens)?;
     Ok(structure_of(true, line, members))
 }
 
@@ -461,17 +461,17 @@ fn outer_at(
     depth: u8,
     room: Room,
     tokens: &mut Tokens,
-) -> Result<Measured, ReadError>
+) -> Result<Measured, ReaderError>
     requires { IsRoom room }
-    ensures exact { Gives (λ x. (x.typed, tokens.new)) result (shape_over_at (λ n. shape_at depth (shared n room)) (λ packed s. shape_at depth (left packed room s)) (leaf_at room) tokens.old) }
+    ensures exact { Returns (λ x. (x.typed, tokens.new)) result (shape_over_at (λ n. shape_at depth (shared n room)) (λ packed s. shape_at depth (left packed room s)) (leaf_at room) tokens.old) }
     ensures measured { IfOk result (λ x. x.extent ≡ extent_of x.typed.shape) }
     ensures fits { IfOk result (λ x. Fits room x.extent) }
 {
-    if tokens.comes(Head::OpenBracket) {
+    if tokens.comes(TokenKind::OpenBracket) {
         array_at(alloc, depth, room, tokens)
-    } else if tokens.comes(Head::OpenBrace) {
+    } else if tokens.comes(TokenKind::OpenBrace) {
         structure_at(alloc, depth, room, tokens)
-    } else if tokens.comes(Head::OpenAngle) {
+    } else if tokens.comes(TokenKind::OpenAngle) {
         packed_at(alloc, depth, room, tokens)
     } else {
         leaf_at(alloc, room, tokens)
@@ -485,9 +485,9 @@ fn shape_at(
     depth: u8,
     room: Room,
     tokens: &mut Tokens,
-) -> Result<Measured, ReadError>
+) -> Result<Measured, ReaderError>
     requires { IsRoom room }
-    ensures exact { Gives (λ x. (x.typed, tokens.new)) result (shape_at depth room tokens.old) }
+    ensures exact { Returns (λ x. (x.typed, tokens.new)) result (shape_at depth room tokens.old) }
     ensures measured { IfOk result (λ x. x.extent ≡ extent_of x.typed.shape) }
     ensures fits { IfOk result (λ x. Fits room x.extent) }
 {
@@ -500,8 +500,8 @@ fn shape_at(
 
 /// Reads a shape of at most 32 levels and `2^31` bytes, where type names count as neither.
 #[tactic(auto, unfolding(crate::specs::ShapeFormsAt::memory_shape_at))]
-pub fn memory_shape_at(alloc: Global, tokens: &mut Tokens) -> Result<Measured, ReadError>
-    ensures exact { Gives (λ x. (x.typed, tokens.new)) result (memory_shape_at tokens.old) }
+pub fn memory_shape_at(alloc: Global, tokens: &mut Tokens) -> Result<Measured, ReaderError>
+    ensures exact { Returns (λ x. (x.typed, tokens.new)) result (memory_shape_at tokens.old) }
     ensures measured { IfOk result (λ x. x.extent ≡ extent_of x.typed.shape) }
     ensures fits { IfOk result (λ x. Fits whole x.extent) }
 {

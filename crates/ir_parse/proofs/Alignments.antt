@@ -2,9 +2,9 @@
 use Rattle.std.proofs.Common.{◌≡◌, ℕ, zero, suc, ◌+◌, ◌^◌, ◌≤◌, ◌&&◌, not, nat_eq, true, ◌⊎◌, inl, inr, List, [], ◌∷◌, Ok, refl, sym, subst, arith}
 use Rattle.std.specs.List.{AllByRecursion as Each}
 use Rattle.std.proofs.lemmas.Bool.{and_parts, eqb-true, or_cases}
-use Rattle.ir_lex.specs.Heads.{number}
+use Rattle.ir_lex.specs.TokenKinds.{number}
 use Rattle.ir_lex.specs.Rows.{begins}
-use Rattle.ir_lex.specs.declared.head.Head.TheVariants as heads
+use Rattle.ir_lex.specs.declared.token_kind.TokenKind.TheVariants as kinds
 use Rattle.ir_read.specs.Alphabet.{contains}
 use Rattle.ir_read.specs.Forms as form
 use Rattle.ir_read.specs.declared.fault.TokenFault.TheVariants.{Number}
@@ -47,7 +47,7 @@ number_written text n e =
 
 pub alignment_written : Means (form.token is_alignment) IsAlignment
 unfolding is_alignment
-alignment_written = token_means (λ t n s h. number_written t.text n (accepted (nat_eq (number t.head) (number heads.Number)) (alignment_of t.text) (refusal (number t.head)) n h).1)
+alignment_written = token_means (λ t n s h. number_written t.text n (accepted (nat_eq (number t.kind) (number kinds.Number)) (alignment_of t.text) (refusal (number t.kind)) n h).1)
 
 pub aligned_written : Means instructions.aligned AlignWritten
 unfolding instructions.aligned

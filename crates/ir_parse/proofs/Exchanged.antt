@@ -2,10 +2,10 @@
 -- putting readers together keep that.
 use Rattle.std.proofs.Common.{◌≡◌, ◌≢◌, ℕ, nat_eq, zero, suc, ◌<◌, Bool, true, false, cond, Some, None, ◌&&◌, not, List, [], ◌∷◌, ◌++◌, length, Result, Ok, Err, refl, sym, ap, subst, ◌∙◌, append_assoc, arith, ◌⊎◌, inl, inr}
 use Rattle.std.proofs.lemmas.List.{append-nil, length-append}
-use Rattle.ir_lex.specs.Heads.{number}
+use Rattle.ir_lex.specs.TokenKinds.{number}
 use Rattle.ir_lex.specs.Tok.{Tok}
-use Rattle.ir_lex.specs.declared.head.Head.TheVariants as heads
-use Rattle.ir_lex.specs.declared.head.Head.{Head}
+use Rattle.ir_lex.specs.declared.token_kind.TokenKind.TheVariants as kinds
+use Rattle.ir_lex.specs.declared.token_kind.TokenKind.{TokenKind}
 use Rattle.ir_read.proofs.Composed.{all_real, cut_is, reads, reads_is, wrong, wrong_is}
 use Rattle.ir_read.proofs.Rules.{apart_from, within_of}
 use Rattle.ir_read.specs.Alphabet.{AllReal, among, contains}
@@ -25,43 +25,43 @@ use Rattle.ir_operands.specs.ShapeForms.{OPEN_ANGLE, OPEN_BRACE}
 use Rattle.ir_parse.specs.Refusals.{MEMORY, WORD, last_is}
 
 -- the classes of the tokens that one of this class stands for, directly behind `<` or not; a string stands for each other
-abbrev pub stands_for : Bool → Head → List ℕ
-stands_for angled heads.RefusedType = REG
-stands_for angled heads.Target = REG ++ WORD
-stands_for angled heads.RegisterInteger = MEMORY
-stands_for angled heads.NumberedGlobal = GLOBAL
-stands_for angled heads.NumberedDefinition = GLOBAL
-stands_for angled heads.Str = STRING
-stands_for angled heads.Number = cond angled OPEN_BRACE []
+abbrev pub stands_for : Bool → TokenKind → List ℕ
+stands_for angled kinds.RefusedType = REG
+stands_for angled kinds.Target = REG ++ WORD
+stands_for angled kinds.RegisterInteger = MEMORY
+stands_for angled kinds.NumberedGlobal = GLOBAL
+stands_for angled kinds.NumberedDefinition = GLOBAL
+stands_for angled kinds.Str = STRING
+stands_for angled kinds.Number = cond angled OPEN_BRACE []
 stands_for angled h = []
 
 -- a plain word goes on where `target` doesn't
-abbrev pub WordGoes : Head → (Tok → Type 0) → Type 0
-WordGoes heads.Target Goes = (w : Tok) × (among tokens WORD w ≡ true) × Goes w
+abbrev pub WordGoes : TokenKind → (Tok → Type 0) → Type 0
+WordGoes kinds.Target Goes = (w : Tok) × (among tokens WORD w ≡ true) × Goes w
 WordGoes h Goes = ⊥
 
 -- why one of this class isn't told to be left out: no token that it stands for goes on, or not each; of a number that is said directly
 -- behind `<`, and of a lifetime marker what stands before it
-abbrev pub NotTold : Bool → Head → (Tok → Type 0) → (Tok → Type 0) → Type 0 → Type 0
-NotTold angled heads.RefusedType Stuck Goes Named = (u : Tok) → among tokens REG u ≡ true → Stuck u
-NotTold angled heads.Target Stuck Goes Named = ((u : Tok) → among tokens REG u ≡ true → Stuck u) ⊎ ((w : Tok) × (among tokens WORD w ≡ true) × Goes w)
-NotTold angled heads.RegisterInteger Stuck Goes Named = (u : Tok) × (among tokens MEMORY u ≡ true) × IsReal u × Stuck u
-NotTold angled heads.NumberedGlobal Stuck Goes Named = (u : Tok) → among tokens GLOBAL u ≡ true → Stuck u
-NotTold angled heads.NumberedDefinition Stuck Goes Named = (u : Tok) → among tokens GLOBAL u ≡ true → Stuck u
-NotTold angled heads.LifetimeMarker Stuck Goes Named = Named
-NotTold angled heads.Str Stuck Goes Named = (u : Tok) → among tokens STRING u ≡ true → Stuck u
-NotTold angled heads.Number Stuck Goes Named = angled ≡ true → (u : Tok) → among tokens OPEN_BRACE u ≡ true → Stuck u
+abbrev pub NotTold : Bool → TokenKind → (Tok → Type 0) → (Tok → Type 0) → Type 0 → Type 0
+NotTold angled kinds.RefusedType Stuck Goes Named = (u : Tok) → among tokens REG u ≡ true → Stuck u
+NotTold angled kinds.Target Stuck Goes Named = ((u : Tok) → among tokens REG u ≡ true → Stuck u) ⊎ ((w : Tok) × (among tokens WORD w ≡ true) × Goes w)
+NotTold angled kinds.RegisterInteger Stuck Goes Named = (u : Tok) × (among tokens MEMORY u ≡ true) × IsReal u × Stuck u
+NotTold angled kinds.NumberedGlobal Stuck Goes Named = (u : Tok) → among tokens GLOBAL u ≡ true → Stuck u
+NotTold angled kinds.NumberedDefinition Stuck Goes Named = (u : Tok) → among tokens GLOBAL u ≡ true → Stuck u
+NotTold angled kinds.LifetimeMarker Stuck Goes Named = Named
+NotTold angled kinds.Str Stuck Goes Named = (u : Tok) → among tokens STRING u ≡ true → Stuck u
+NotTold angled kinds.Number Stuck Goes Named = angled ≡ true → (u : Tok) → among tokens OPEN_BRACE u ≡ true → Stuck u
 NotTold angled h Stuck Goes Named = Unit {0}
 
 -- why it is: one that it stands for goes on, or each; and where `target` is told no plain word goes on
-abbrev pub IsTold : Bool → Head → (Tok → Type 0) → (Tok → Type 0) → Type 0
-IsTold angled heads.RefusedType Stuck Goes = (u : Tok) × (among tokens REG u ≡ true) × Goes u
-IsTold angled heads.Target Stuck Goes = ((u : Tok) × (among tokens REG u ≡ true) × Goes u) × ((w : Tok) → among tokens WORD w ≡ true → Stuck w)
-IsTold angled heads.RegisterInteger Stuck Goes = (u : Tok) → among tokens MEMORY u ≡ true → IsReal u → Goes u
-IsTold angled heads.NumberedGlobal Stuck Goes = (u : Tok) × (among tokens GLOBAL u ≡ true) × Goes u
-IsTold angled heads.NumberedDefinition Stuck Goes = (u : Tok) × (among tokens GLOBAL u ≡ true) × Goes u
-IsTold angled heads.Str Stuck Goes = (u : Tok) × (among tokens STRING u ≡ true) × Goes u
-IsTold angled heads.Number Stuck Goes = angled ≡ true → (u : Tok) × (among tokens OPEN_BRACE u ≡ true) × Goes u
+abbrev pub IsTold : Bool → TokenKind → (Tok → Type 0) → (Tok → Type 0) → Type 0
+IsTold angled kinds.RefusedType Stuck Goes = (u : Tok) × (among tokens REG u ≡ true) × Goes u
+IsTold angled kinds.Target Stuck Goes = ((u : Tok) × (among tokens REG u ≡ true) × Goes u) × ((w : Tok) → among tokens WORD w ≡ true → Stuck w)
+IsTold angled kinds.RegisterInteger Stuck Goes = (u : Tok) → among tokens MEMORY u ≡ true → IsReal u → Goes u
+IsTold angled kinds.NumberedGlobal Stuck Goes = (u : Tok) × (among tokens GLOBAL u ≡ true) × Goes u
+IsTold angled kinds.NumberedDefinition Stuck Goes = (u : Tok) × (among tokens GLOBAL u ≡ true) × Goes u
+IsTold angled kinds.Str Stuck Goes = (u : Tok) × (among tokens STRING u ≡ true) × Goes u
+IsTold angled kinds.Number Stuck Goes = angled ≡ true → (u : Tok) × (among tokens OPEN_BRACE u ≡ true) × Goes u
 IsTold angled h Stuck Goes = Unit {0}
 
 -- behind these tokens this one is refused, not only for its range or a limit
@@ -89,14 +89,14 @@ is_angled front = last_is (among tokens OPEN_ANGLE) front
 
 -- what a reading says at a token of this class of those that it stands for; only some readings end where a plain word goes on and
 -- `target` doesn't
-abbrev pub OutcomeAt : {A : Type 0} → Bool → Place → Form Tok A → Reader Tok A → Bool → List Tok → Head → Result A TokenFault → Type 0
+abbrev pub OutcomeAt : {A : Type 0} → Bool → Place → Form Tok A → Reader Tok A → Bool → List Tok → TokenKind → Result A TokenFault → Type 0
 OutcomeAt words place wide f angled front h (Ok a) = ((u : Tok) → among tokens (stands_for angled h) u ≡ true → Stays f front a u) ⊎ ((words ≡ true) × WordGoes h (Goes wide front))
 OutcomeAt words place wide f angled front h (Err Syntax) = NotTold angled h (Stuck f front) (Goes wide front) (place front tt)
 OutcomeAt words place wide f angled front h (Err Profile) = IsTold angled h (Stuck f front) (Goes wide front)
 OutcomeAt words place wide f angled front h (Err Number) = Unit {0}
 OutcomeAt words place wide f angled front h (Err Limit) = Unit {0}
 
-abbrev pub Outcome : {A : Type 0} → Bool → Place → Form Tok A → Reader Tok A → List Tok → Head → Result A TokenFault → Type 0
+abbrev pub Outcome : {A : Type 0} → Bool → Place → Form Tok A → Reader Tok A → List Tok → TokenKind → Result A TokenFault → Type 0
 Outcome words place wide f front h o = OutcomeAt words place wide f (is_angled front) front h o
 
 -- Some readings end where a plain word goes on, and some behind `<`; before a lifetime marker that is told against the syntax stands such
@@ -107,7 +107,7 @@ pub record Swaps {A : Type 0} (words loose : Bool) (place : Place) (wide : Form 
   pub local : (front : List Tok) (t : Tok) (rest rest' : List Tok) (o : Result A TokenFault) → f (front ++ t ∷ rest) ≡ ends o (t ∷ rest) → f (front ++ t ∷ rest') ≡ ends o (t ∷ rest')
   pub some : (ts : List Tok) × (a : A) × wide ts a × AllReal tokens ts
   pub closed : (front rest : List Tok) (a : A) → f (front ++ rest) ≡ reads a rest → is_angled front ≡ true → loose ≡ true
-  pub swap : (front : List Tok) (t : Tok) (rest : List Tok) (o : Result A TokenFault) → f (front ++ t ∷ rest) ≡ ends o (t ∷ rest) → Outcome words place wide f front t.head o
+  pub swap : (front : List Tok) (t : Tok) (rest : List Tok) (o : Result A TokenFault) → f (front ++ t ∷ rest) ≡ ends o (t ∷ rest) → Outcome words place wide f front t.kind o
 
 abbrev pub Swapping : {A : Type 0} → Bool → Place → Form Tok A → Reader Tok A → Type 0
 Swapping words place wide f = Swaps words false place wide f
@@ -122,43 +122,43 @@ Exchanges wide f = Exchanging false wide f
 -- ---- the same of other readings
 
 pub a_type : (u : Tok) → among tokens REG u ≡ true → among tokens (REG ++ WORD) u ≡ true
-a_type u i = within_of REG (REG ++ WORD) refl (number u.head) i
+a_type u i = within_of REG (REG ++ WORD) refl (number u.kind) i
 
 pub a_plain_word : (w : Tok) → among tokens WORD w ≡ true → among tokens (REG ++ WORD) w ≡ true
-a_plain_word w i = within_of WORD (REG ++ WORD) refl (number w.head) i
+a_plain_word w i = within_of WORD (REG ++ WORD) refl (number w.kind) i
 
-pub not_told_too : (angled : Bool) (h : Head) (S S' G G' : Tok → Type 0) (P P' : Type 0) → ((u : Tok) → among tokens (stands_for angled h) u ≡ true → S u → S' u) → ((u : Tok) → G u → G' u) → (P → P') → NotTold angled h S G P → NotTold angled h S' G' P'
-not_told_too angled heads.RefusedType S S' G G' P P' s g p n = λ u i. s u i (n u i)
-not_told_too angled heads.Target S S' G G' P P' s g p (inl n) = inl (λ u i. s u (a_type u i) (n u i))
-not_told_too angled heads.Target S S' G G' P P' s g p (inr (w, i, n)) = inr (w, i, g w n)
-not_told_too angled heads.RegisterInteger S S' G G' P P' s g p (u, i, r, n) = (u, i, r, s u i n)
-not_told_too angled heads.NumberedGlobal S S' G G' P P' s g p n = λ u i. s u i (n u i)
-not_told_too angled heads.NumberedDefinition S S' G G' P P' s g p n = λ u i. s u i (n u i)
-not_told_too angled heads.LifetimeMarker S S' G G' P P' s g p n = p n
-not_told_too angled heads.Str S S' G G' P P' s g p n = λ u i. s u i (n u i)
-not_told_too angled heads.Number S S' G G' P P' s g p n = λ q u i. s u (subst (λ (b : Bool). among tokens (cond b OPEN_BRACE []) u ≡ true) (sym q) i) (n q u i)
+pub not_told_too : (angled : Bool) (h : TokenKind) (S S' G G' : Tok → Type 0) (P P' : Type 0) → ((u : Tok) → among tokens (stands_for angled h) u ≡ true → S u → S' u) → ((u : Tok) → G u → G' u) → (P → P') → NotTold angled h S G P → NotTold angled h S' G' P'
+not_told_too angled kinds.RefusedType S S' G G' P P' s g p n = λ u i. s u i (n u i)
+not_told_too angled kinds.Target S S' G G' P P' s g p (inl n) = inl (λ u i. s u (a_type u i) (n u i))
+not_told_too angled kinds.Target S S' G G' P P' s g p (inr (w, i, n)) = inr (w, i, g w n)
+not_told_too angled kinds.RegisterInteger S S' G G' P P' s g p (u, i, r, n) = (u, i, r, s u i n)
+not_told_too angled kinds.NumberedGlobal S S' G G' P P' s g p n = λ u i. s u i (n u i)
+not_told_too angled kinds.NumberedDefinition S S' G G' P P' s g p n = λ u i. s u i (n u i)
+not_told_too angled kinds.LifetimeMarker S S' G G' P P' s g p n = p n
+not_told_too angled kinds.Str S S' G G' P P' s g p n = λ u i. s u i (n u i)
+not_told_too angled kinds.Number S S' G G' P P' s g p n = λ q u i. s u (subst (λ (b : Bool). among tokens (cond b OPEN_BRACE []) u ≡ true) (sym q) i) (n q u i)
 not_told_too angled h S S' G G' P P' s g p n = tt
 
-pub told_too : (angled : Bool) (h : Head) (S S' G G' : Tok → Type 0) → ((u : Tok) → among tokens (stands_for angled h) u ≡ true → S u → S' u) → ((u : Tok) → G u → G' u) → IsTold angled h S G → IsTold angled h S' G'
-told_too angled heads.RefusedType S S' G G' s g (u, i, n) = (u, i, g u n)
-told_too angled heads.Target S S' G G' s g ((u, i, n), m) = ((u, i, g u n), λ w j. s w (a_plain_word w j) (m w j))
-told_too angled heads.RegisterInteger S S' G G' s g n = λ u i r. g u (n u i r)
-told_too angled heads.NumberedGlobal S S' G G' s g (u, i, n) = (u, i, g u n)
-told_too angled heads.NumberedDefinition S S' G G' s g (u, i, n) = (u, i, g u n)
-told_too angled heads.Str S S' G G' s g (u, i, n) = (u, i, g u n)
-told_too angled heads.Number S S' G G' s g n = λ q. let v = n q in (v.0, v.1, g v.0 v.2)
+pub told_too : (angled : Bool) (h : TokenKind) (S S' G G' : Tok → Type 0) → ((u : Tok) → among tokens (stands_for angled h) u ≡ true → S u → S' u) → ((u : Tok) → G u → G' u) → IsTold angled h S G → IsTold angled h S' G'
+told_too angled kinds.RefusedType S S' G G' s g (u, i, n) = (u, i, g u n)
+told_too angled kinds.Target S S' G G' s g ((u, i, n), m) = ((u, i, g u n), λ w j. s w (a_plain_word w j) (m w j))
+told_too angled kinds.RegisterInteger S S' G G' s g n = λ u i r. g u (n u i r)
+told_too angled kinds.NumberedGlobal S S' G G' s g (u, i, n) = (u, i, g u n)
+told_too angled kinds.NumberedDefinition S S' G G' s g (u, i, n) = (u, i, g u n)
+told_too angled kinds.Str S S' G G' s g (u, i, n) = (u, i, g u n)
+told_too angled kinds.Number S S' G G' s g n = λ q. let v = n q in (v.0, v.1, g v.0 v.2)
 told_too angled h S S' G G' s g n = tt
 
-pub word_too : (h : Head) (G G' : Tok → Type 0) → ((u : Tok) → G u → G' u) → WordGoes h G → WordGoes h G'
-word_too heads.Target G G' g (w, i, n) = (w, i, g w n)
+pub word_too : (h : TokenKind) (G G' : Tok → Type 0) → ((u : Tok) → G u → G' u) → WordGoes h G → WordGoes h G'
+word_too kinds.Target G G' g (w, i, n) = (w, i, g w n)
 word_too h G G' g n = absurd n
 
 -- where a word goes on, `target` isn't told to be left out
-pub word_not_told : (angled : Bool) (h : Head) (S G : Tok → Type 0) (P : Type 0) → WordGoes h G → NotTold angled h S G P
-word_not_told angled heads.Target S G P n = inr n
+pub word_not_told : (angled : Bool) (h : TokenKind) (S G : Tok → Type 0) (P : Type 0) → WordGoes h G → NotTold angled h S G P
+word_not_told angled kinds.Target S G P n = inr n
 word_not_told angled h S G P n = absurd n
 
-module _ {A B : Type 0} (words words' : Bool) (place place' : Place) (wide : Form Tok A) (wide' : Form Tok B) (f : Reader Tok A) (f' : Reader Tok B) (angled : Bool) (front front' : List Tok) (h : Head) where
+module _ {A B : Type 0} (words words' : Bool) (place place' : Place) (wide : Form Tok A) (wide' : Form Tok B) (f : Reader Tok A) (f' : Reader Tok B) (angled : Bool) (front front' : List Tok) (h : TokenKind) where
   -- what is said of one reading is said of another
   pub err_too : (k : TokenFault) → (place front tt → place' front' tt) → ((u : Tok) → among tokens (stands_for angled h) u ≡ true → Stuck f front u → Stuck f' front' u) → ((u : Tok) → Goes wide front u → Goes wide' front' u) → OutcomeAt words place wide f angled front h (Err k) → OutcomeAt words' place' wide' f' angled front' h (Err k)
   err_too Syntax v s g n = not_told_too angled h (Stuck f front) (Stuck f' front') (Goes wide front) (Goes wide' front') (place front tt) (place' front' tt) s g v n
@@ -170,7 +170,7 @@ module _ {A B : Type 0} (words words' : Bool) (place place' : Place) (wide : For
   ok_too q a b s g (inl n) = inl (λ u i. s u i (n u i))
   ok_too q a b s g (inr (e, w)) = inr (q e, word_too h (Goes wide front) (Goes wide' front') g w)
 
-pub outcome_too : {A : Type 0} (words words' : Bool) (place place' : Place) (wide wide' : Form Tok A) (f f' : Reader Tok A) (angled : Bool) (front front' : List Tok) (h : Head) (o : Result A TokenFault) → (words ≡ true → words' ≡ true) → (place front tt → place' front' tt) → ((u : Tok) → among tokens (stands_for angled h) u ≡ true → (rest : List Tok) → f (front ++ u ∷ rest) ≡ f' (front' ++ u ∷ rest)) → ((u : Tok) → Goes wide front u → Goes wide' front' u)
+pub outcome_too : {A : Type 0} (words words' : Bool) (place place' : Place) (wide wide' : Form Tok A) (f f' : Reader Tok A) (angled : Bool) (front front' : List Tok) (h : TokenKind) (o : Result A TokenFault) → (words ≡ true → words' ≡ true) → (place front tt → place' front' tt) → ((u : Tok) → among tokens (stands_for angled h) u ≡ true → (rest : List Tok) → f (front ++ u ∷ rest) ≡ f' (front' ++ u ∷ rest)) → ((u : Tok) → Goes wide front u → Goes wide' front' u)
     → OutcomeAt words place wide f angled front h o → OutcomeAt words' place' wide' f' angled front' h o
 outcome_too words words' place place' wide wide' f f' angled front front' h (Ok a) q v same g n = ok_too words words' place place' wide wide' f f' angled front front' h q a a (λ u i s rest. sym (same u i rest) ∙ s rest) g n
 outcome_too words words' place place' wide wide' f f' angled front front' h (Err k) q v same g n = err_too words words' place place' wide wide' f f' angled front front' h k v (λ u i s rest. let r = s rest in (r.0, r.1, sym (same u i rest) ∙ r.2)) g n
@@ -188,8 +188,8 @@ angled_behind (t ∷ []) v mid = refl
 angled_behind (t ∷ u ∷ one) v mid = angled_behind (u ∷ one) v mid
 
 -- but for a number, what stands before is all one
-pub same_at : {A : Type 0} (words : Bool) (place : Place) (wide : Form Tok A) (f : Reader Tok A) (front : List Tok) (h : Head) (o : Result A TokenFault) → nat_eq (number h) (number heads.Number) ≡ false → OutcomeAt words place wide f false front h o → OutcomeAt words place wide f true front h o
-same_at words place wide f front heads.Number o z p = absurd cc
+pub same_at : {A : Type 0} (words : Bool) (place : Place) (wide : Form Tok A) (f : Reader Tok A) (front : List Tok) (h : TokenKind) (o : Result A TokenFault) → nat_eq (number h) (number kinds.Number) ≡ false → OutcomeAt words place wide f false front h o → OutcomeAt words place wide f true front h o
+same_at words place wide f front kinds.Number o z p = absurd cc
 same_at words place wide f front h (Ok a) z p = p
 same_at words place wide f front h (Err Syntax) z p = p
 same_at words place wide f front h (Err Profile) z p = p
@@ -212,7 +212,7 @@ module _ {A : Type 0} (a : A) where
     local = λ front t rest rest' o d. let h = ends_here front t rest o d in rw (h.0, h.1) refl;
     some = ([], a, (refl, refl), tt);
     closed = λ front rest b d e. absurd (never_angled front (cut_is front rest [] rest (reads_is a b (front ++ rest) rest d).1 refl).0 e);
-    swap = λ front t rest o d. let h = ends_here front t rest o d in subst (λ (y : Result A TokenFault). Outcome false nowhere (form.gives a) (done a) front t.head y) (sym h.1) (subst (λ (y : List Tok). Outcome false nowhere (form.gives a) (done a) y t.head (Ok a)) (sym h.0) (inl (λ u i rest'. refl)));
+    swap = λ front t rest o d. let h = ends_here front t rest o d in subst (λ (y : Result A TokenFault). Outcome false nowhere (form.gives a) (done a) front t.kind y) (sym h.1) (subst (λ (y : List Tok). Outcome false nowhere (form.gives a) (done a) y t.kind (Ok a)) (sym h.0) (inl (λ u i rest'. refl)));
   }
 
 -- ---- one behind another
@@ -233,15 +233,15 @@ MayFollow words (Err Syntax) = Unit {0}
 MayFollow words (Err Number) = Unit {0}
 MayFollow words (Err Limit) = Unit {0}
 
-pub is_target : Head → Bool
-is_target heads.Target = true
+pub is_target : TokenKind → Bool
+is_target kinds.Target = true
 is_target h = false
 
 module _ {A B : Type 0} {words words' loose loose' : Bool} (result result_loose : Bool) {one_place : Place} {other_place : A → Place} (place : Place) {wide : Form Tok A} {f : Reader Tok A} {wide' : A → Form Tok B} {h : A → Reader Tok B} (law : Swaps words loose one_place wide f) (laws : (a : A) → Swaps words' loose' (other_place a) (wide' a) (h a)) (into : words' ≡ true → result ≡ true)
     (loose_first : loose ≡ true → (a : A) (b : B) → wide' a [] b → result_loose ≡ true) (loose_second : loose' ≡ true → result_loose ≡ true)
-    (after : loose ≡ true → (a : A) (t : Tok) (rest : List Tok) (o : Result B TokenFault) → h a (t ∷ rest) ≡ ends o (t ∷ rest) → OutcomeAt words' (other_place a) (wide' a) (h a) true [] t.head o)
+    (after : loose ≡ true → (a : A) (t : Tok) (rest : List Tok) (o : Result B TokenFault) → h a (t ∷ rest) ≡ ends o (t ∷ rest) → OutcomeAt words' (other_place a) (wide' a) (h a) true [] t.kind o)
     (within_first : (front : List Tok) → one_place front tt → place front tt) (within_second : (one two : List Tok) (a : A) → wide one a → other_place a two tt → place (one ++ two) tt)
-    (follows : words ≡ true → (a : A) (t : Tok) (rest : List Tok) (o : Result B TokenFault) → is_target t.head ≡ true → h a (t ∷ rest) ≡ ends o (t ∷ rest) → MayFollow result o) where
+    (follows : words ≡ true → (a : A) (t : Tok) (rest : List Tok) (o : Result B TokenFault) → is_target t.kind ≡ true → h a (t ∷ rest) ≡ ends o (t ∷ rest) → MayFollow result o) where
   abbrev both : Form Tok B
   both = form.◌>>=◌ wide wide'
 
@@ -313,18 +313,18 @@ module _ {A B : Type 0} {words words' loose loose' : Bool} (result result_loose 
       ap (λ (y : List Tok). (f >>= h) (y ++ t ∷ rest')) c.front_is ∙ whole c.one c.two x.0 t rest' (local_first c.one c.two t rest rest' x.0 c.first) ∙ two
 
   -- the second reading, behind a first one that stays
-  behind : (one two : List Tok) (a : A) → wide one a → (angled : Bool) → angled ≡ is_angled (one ++ two) → (k : Head) (o : Result B TokenFault) → ((u : Tok) → among tokens (stands_for angled k) u ≡ true → (rest : List Tok) → f (one ++ (two ++ u ∷ rest)) ≡ reads a (two ++ u ∷ rest)) → OutcomeAt words' (other_place a) (wide' a) (h a) angled two k o → Outcome result place both (f >>= h) (one ++ two) k o
+  behind : (one two : List Tok) (a : A) → wide one a → (angled : Bool) → angled ≡ is_angled (one ++ two) → (k : TokenKind) (o : Result B TokenFault) → ((u : Tok) → among tokens (stands_for angled k) u ≡ true → (rest : List Tok) → f (one ++ (two ++ u ∷ rest)) ≡ reads a (two ++ u ∷ rest)) → OutcomeAt words' (other_place a) (wide' a) (h a) angled two k o → Outcome result place both (f >>= h) (one ++ two) k o
   behind one two a s angled e k o stays n =
       subst (λ (b : Bool). OutcomeAt result place both (f >>= h) b (one ++ two) k o) e
       (outcome_too words' result (other_place a) place (wide' a) both (h a) (f >>= h) angled two (one ++ two) k o into (within_second one two a s) (λ u i rest. sym (whole one two a u rest (stays u i rest))) (λ u g. goes_second one two a s u g) n)
 
-  word_is : (k : Head) (G : Tok → Type 0) → WordGoes k G → is_target k ≡ true
+  word_is : (k : TokenKind) (G : Tok → Type 0) → WordGoes k G → is_target k ≡ true
   unfolding is_target
-  word_is heads.Target G w = refl
+  word_is kinds.Target G w = refl
   word_is k G w = absurd w
 
   -- or behind one where a word goes on
-  behind_word : (one : List Tok) (k : Head) (o : Result B TokenFault) → WordGoes k (Goes wide one) → MayFollow result o → Outcome result place both (f >>= h) (one ++ []) k o
+  behind_word : (one : List Tok) (k : TokenKind) (o : Result B TokenFault) → WordGoes k (Goes wide one) → MayFollow result o → Outcome result place both (f >>= h) (one ++ []) k o
   behind_word one k (Ok b) w n = inr (n, word_too k (Goes wide one) (Goes both (one ++ [])) (λ u g. goes_first (one ++ []) u (subst (λ (y : List Tok). Goes wide y u) (sym (append-nil one)) g)) w)
   behind_word one k (Err Syntax) w n = word_not_told (is_angled (one ++ [])) k (Stuck (f >>= h) (one ++ [])) (Goes both (one ++ [])) (place (one ++ []) tt) (word_too k (Goes wide one) (Goes both (one ++ [])) (λ u g. goes_first (one ++ []) u (subst (λ (y : List Tok). Goes wide y u) (sym (append-nil one)) g)) w)
   behind_word one k (Err Profile) w n = absurd n
@@ -332,24 +332,24 @@ module _ {A B : Type 0} {words words' loose loose' : Bool} (result result_loose 
   behind_word one k (Err Limit) w n = tt
 
   -- nothing is read behind the first
-  nothing_behind : (one : List Tok) (t : Tok) (rest : List Tok) (o : Result B TokenFault) (a : A) → wide one a → f (one ++ t ∷ rest) ≡ reads a (t ∷ rest) → h a (t ∷ rest) ≡ ends o (t ∷ rest) → (angled : Bool) → is_angled one ≡ angled → ((u : Tok) → among tokens (stands_for angled t.head) u ≡ true → Stays f one a u) → Outcome result place both (f >>= h) (one ++ []) t.head o
-  nothing_behind one t rest o a s e d false q stays = behind one [] a s false (sym (ap is_angled (append-nil one) ∙ q)) t.head o stays ((laws a).swap [] t rest o d)
-  nothing_behind one t rest o a s e d true q stays = behind one [] a s true (sym (ap is_angled (append-nil one) ∙ q)) t.head o stays (after (law.closed one (t ∷ rest) a e q) a t rest o d)
+  nothing_behind : (one : List Tok) (t : Tok) (rest : List Tok) (o : Result B TokenFault) (a : A) → wide one a → f (one ++ t ∷ rest) ≡ reads a (t ∷ rest) → h a (t ∷ rest) ≡ ends o (t ∷ rest) → (angled : Bool) → is_angled one ≡ angled → ((u : Tok) → among tokens (stands_for angled t.kind) u ≡ true → Stays f one a u) → Outcome result place both (f >>= h) (one ++ []) t.kind o
+  nothing_behind one t rest o a s e d false q stays = behind one [] a s false (sym (ap is_angled (append-nil one) ∙ q)) t.kind o stays ((laws a).swap [] t rest o d)
+  nothing_behind one t rest o a s e d true q stays = behind one [] a s true (sym (ap is_angled (append-nil one) ∙ q)) t.kind o stays (after (law.closed one (t ∷ rest) a e q) a t rest o d)
 
-  swap_second : (one two : List Tok) (t : Tok) (rest : List Tok) (o : Result B TokenFault) (a : A) → wide one a → f (one ++ (two ++ t ∷ rest)) ≡ reads a (two ++ t ∷ rest) → h a (two ++ t ∷ rest) ≡ ends o (t ∷ rest) → Outcome result place both (f >>= h) (one ++ two) t.head o
-  swap_second one (v ∷ mid) t rest o a s e d = behind one (v ∷ mid) a s (is_angled (v ∷ mid)) (angled_behind one v mid) t.head o (λ u i rest'. law.local one v (mid ++ t ∷ rest) (mid ++ u ∷ rest') (Ok a) e) ((laws a).swap (v ∷ mid) t rest o d)
+  swap_second : (one two : List Tok) (t : Tok) (rest : List Tok) (o : Result B TokenFault) (a : A) → wide one a → f (one ++ (two ++ t ∷ rest)) ≡ reads a (two ++ t ∷ rest) → h a (two ++ t ∷ rest) ≡ ends o (t ∷ rest) → Outcome result place both (f >>= h) (one ++ two) t.kind o
+  swap_second one (v ∷ mid) t rest o a s e d = behind one (v ∷ mid) a s (is_angled (v ∷ mid)) (angled_behind one v mid) t.kind o (λ u i rest'. law.local one v (mid ++ t ∷ rest) (mid ++ u ∷ rest') (Ok a) e) ((laws a).swap (v ∷ mid) t rest o d)
   swap_second one [] t rest o a s e d = elim (law.swap one t rest (Ok a) e) [
     | inl stays ↦ nothing_behind one t rest o a s e d (is_angled one) refl stays
-    | inr w ↦ behind_word one t.head o w.1 (follows w.0 a t rest o (word_is t.head (Goes wide one) w.1) d)
+    | inr w ↦ behind_word one t.kind o w.1 (follows w.0 a t rest o (word_is t.kind (Goes wide one) w.1) d)
   ]
 
-  swap_seq : (front : List Tok) (t : Tok) (rest : List Tok) (o : Result B TokenFault) (r : Result (A × List Tok) Fault) → f (front ++ t ∷ rest) ≡ r → follow r h ≡ ends o (t ∷ rest) → Outcome result place both (f >>= h) front t.head o
+  swap_seq : (front : List Tok) (t : Tok) (rest : List Tok) (o : Result B TokenFault) (r : Result (A × List Tok) Fault) → f (front ++ t ∷ rest) ≡ r → follow r h ≡ ends o (t ∷ rest) → Outcome result place both (f >>= h) front t.kind o
   swap_seq front t rest o (Err e) i d =
       let w = err_ends e o (t ∷ rest) d in
-      subst (λ (x : Result B TokenFault). Outcome result place both (f >>= h) front t.head x) (sym w.1) (err_too words result one_place place wide both f (f >>= h) (is_angled front) front front t.head w.0 (within_first front) (λ u _ s. stuck_first front u s) (λ u g. goes_first front u g) (law.swap front t rest (Err w.0) (i ∙ ap wrong w.2)))
+      subst (λ (x : Result B TokenFault). Outcome result place both (f >>= h) front t.kind x) (sym w.1) (err_too words result one_place place wide both f (f >>= h) (is_angled front) front front t.kind w.0 (within_first front) (λ u _ s. stuck_first front u s) (λ u g. goes_first front u g) (law.swap front t rest (Err w.0) (i ∙ ap wrong w.2)))
   swap_seq front t rest o (Ok x) i d =
       let c = cut front t rest o x.0 x.1 i d in
-      subst (λ (y : List Tok). Outcome result place both (f >>= h) y t.head o) (sym c.front_is) (swap_second c.one c.two t rest o x.0 c.spelled c.first (ap (h x.0) (sym c.left_is) ∙ d))
+      subst (λ (y : List Tok). Outcome result place both (f >>= h) y t.kind o) (sym c.front_is) (swap_second c.one c.two t rest o x.0 c.spelled c.first (ap (h x.0) (sym c.left_is) ∙ d))
 
   -- the last token is the second's, or it reads none
   last_of : (one two mid rest : List Tok) (a : A) (b : B) → f (one ++ mid) ≡ reads a mid → h a mid ≡ reads b rest → mid ≡ two ++ rest → wide' a two b → is_angled (one ++ two) ≡ true → result_loose ≡ true
@@ -407,7 +407,7 @@ with_value {place = place} value law = seq_by true false place law (λ a. nothin
 pub seq_loosely : {A B : Type 0} {wide : Form Tok A} {f : Reader Tok A} {wide' : A → Form Tok B} {h : A → Reader Tok B} → Exchanges wide f → ((a : A) → Swaps false true nowhere (wide' a) (h a)) → Swaps false true nowhere (form.◌>>=◌ wide wide') (f >>= h)
 seq_loosely law laws = seq_by false true nowhere law laws (λ e. e) (λ e. absurd (differ e)) (λ e. e) (λ e. absurd (differ e)) (λ front v. v) (λ one two a s v. v) (λ e. absurd (differ e))
 
-pub nothing_after : {B : Type 0} (b : B) (t : Tok) (rest : List Tok) (o : Result B TokenFault) → reads b (t ∷ rest) ≡ ends o (t ∷ rest) → OutcomeAt false nowhere (form.gives b) (done b) true [] t.head o
+pub nothing_after : {B : Type 0} (b : B) (t : Tok) (rest : List Tok) (o : Result B TokenFault) → reads b (t ∷ rest) ≡ ends o (t ∷ rest) → OutcomeAt false nowhere (form.gives b) (done b) true [] t.kind o
 nothing_after {B} b t rest (Ok c) d = inl (λ u i rest'. ap (λ (x : B). reads x (u ∷ rest')) (reads_is b c (t ∷ rest) (t ∷ rest) d).0)
 nothing_after b t rest (Err k) d = absurd cc
 
@@ -422,26 +422,26 @@ syntax_follows (Ok b) us d = absurd cc
 syntax_follows {B} (Err k) us d = subst (λ (x : TokenFault). MayFollow {B = B} false (Err x)) (ap (λ (x : Fault). x.kind) (wrong_is {X = B × List Tok} (record { left = length us; kind = Syntax }) (record { left = length us; kind = k }) d)) tt
 
 -- the second refuses `target`
-pub seq_closing : {A B : Type 0} {place : Place} {wide : Form Tok A} {f : Reader Tok A} {wide' : A → Form Tok B} {h : A → Reader Tok B} → Swapping true place wide f → ((a : A) → Exchanges (wide' a) (h a)) → ((a : A) (t : Tok) (rest : List Tok) → is_target t.head ≡ true → h a (t ∷ rest) ≡ fault_at Syntax (t ∷ rest)) → Swapping false place (form.◌>>=◌ wide wide') (f >>= h)
+pub seq_closing : {A B : Type 0} {place : Place} {wide : Form Tok A} {f : Reader Tok A} {wide' : A → Form Tok B} {h : A → Reader Tok B} → Swapping true place wide f → ((a : A) → Exchanges (wide' a) (h a)) → ((a : A) (t : Tok) (rest : List Tok) → is_target t.kind ≡ true → h a (t ∷ rest) ≡ fault_at Syntax (t ∷ rest)) → Swapping false place (form.◌>>=◌ wide wide') (f >>= h)
 seq_closing {place = place} law laws closes = seq_by false false place law laws (λ e. e) (λ e a b w. e) (λ e. e) (λ e. absurd (differ e)) (λ front v. v) (λ one two a s v. absurd v) (λ v a t rest o q d. syntax_follows o (t ∷ rest) (sym (closes a t rest q) ∙ d))
 
 -- and tells a lifetime marker against the syntax in some places
-pub seq_closing_to : {A B : Type 0} {place : A → Place} {wide : Form Tok A} {f : Reader Tok A} {wide' : A → Form Tok B} {h : A → Reader Tok B} → Exchanging true wide f → ((a : A) → Swapping false (place a) (wide' a) (h a)) → ((a : A) (t : Tok) (rest : List Tok) → is_target t.head ≡ true → h a (t ∷ rest) ≡ fault_at Syntax (t ∷ rest))
+pub seq_closing_to : {A B : Type 0} {place : A → Place} {wide : Form Tok A} {f : Reader Tok A} {wide' : A → Form Tok B} {h : A → Reader Tok B} → Exchanging true wide f → ((a : A) → Swapping false (place a) (wide' a) (h a)) → ((a : A) (t : Tok) (rest : List Tok) → is_target t.kind ≡ true → h a (t ∷ rest) ≡ fault_at Syntax (t ∷ rest))
     → Swapping false (form.◌>>=◌ wide place) (form.◌>>=◌ wide wide') (f >>= h)
 seq_closing_to {place = place} {wide = wide} law laws closes = seq_by false false (form.◌>>=◌ wide place) law laws (λ e. e) (λ e a b w. e) (λ e. e) (λ e. absurd (differ e)) (λ front v. absurd v) (λ one two a s v. place_behind wide place one two a s v) (λ v a t rest o q d. syntax_follows o (t ∷ rest) (sym (closes a t rest q) ∙ d))
 
 -- the second may read nothing before it
-pub seq_passing : {A B : Type 0} {wide : Form Tok A} {f : Reader Tok A} {wide' : A → Form Tok B} {h : A → Reader Tok B} → Exchanging true wide f → ((a : A) → Exchanges (wide' a) (h a)) → ((a : A) (t : Tok) (rest : List Tok) → is_target t.head ≡ true → (b : B) × (h a (t ∷ rest) ≡ reads b (t ∷ rest))) → Exchanging true (form.◌>>=◌ wide wide') (f >>= h)
+pub seq_passing : {A B : Type 0} {wide : Form Tok A} {f : Reader Tok A} {wide' : A → Form Tok B} {h : A → Reader Tok B} → Exchanging true wide f → ((a : A) → Exchanges (wide' a) (h a)) → ((a : A) (t : Tok) (rest : List Tok) → is_target t.kind ≡ true → (b : B) × (h a (t ∷ rest) ≡ reads b (t ∷ rest))) → Exchanging true (form.◌>>=◌ wide wide') (f >>= h)
 seq_passing law laws passes = seq_by true false nowhere law laws (λ e. absurd (differ e)) (λ e a b w. e) (λ e. e) (λ e. absurd (differ e)) (λ front v. v) (λ one two a s v. v) (λ v a t rest o q d. let p = passes a t rest q in valued_end p.0 (t ∷ rest) o (sym p.1 ∙ d))
 
-pub target_is : (h : Head) → is_target h ≡ true → number h ≡ number heads.Target
+pub target_is : (h : TokenKind) → is_target h ≡ true → number h ≡ number kinds.Target
 unfolding is_target
-target_is heads.Target e = refl
+target_is kinds.Target e = refl
 target_is h e = absurd (differ e)
 
 -- ---- of a reader that is tied to its form
 
-pub of_rule : {A : Type 0} {loose : Bool} {g wide : Form Tok A} {f : Reader Tok A} {xs ms : List ℕ} {e : Bool} → Rule tokens g wide f xs ms e → ((front rest : List Tok) (a : A) → f (front ++ rest) ≡ reads a rest → is_angled front ≡ true → loose ≡ true) → ((front : List Tok) (t : Tok) (rest : List Tok) (o : Result A TokenFault) → f (front ++ t ∷ rest) ≡ ends o (t ∷ rest) → Outcome false nowhere wide f front t.head o) → Swaps false loose nowhere wide f
+pub of_rule : {A : Type 0} {loose : Bool} {g wide : Form Tok A} {f : Reader Tok A} {xs ms : List ℕ} {e : Bool} → Rule tokens g wide f xs ms e → ((front rest : List Tok) (a : A) → f (front ++ rest) ≡ reads a rest → is_angled front ≡ true → loose ≡ true) → ((front : List Tok) (t : Tok) (rest : List Tok) (o : Result A TokenFault) → f (front ++ t ∷ rest) ≡ ends o (t ∷ rest) → Outcome false nowhere wide f front t.kind o) → Swaps false loose nowhere wide f
 of_rule rule closed swap = record {
   sound = λ ts rest a e. let s = rule.law.sound ts rest a e in (s.0, s.1, rule.law.contains s.0 a s.2);
   placed = λ ts e d. let v = rule.law.viable ts e d in (v.front, v.rest, v.whole, v.here);
@@ -466,7 +466,7 @@ recast {words = words} {place = place} {wide = wide} {wide' = wide'} {f = f} ove
   local = law.local;
   some = let z = law.some in (z.0, z.1, over z.0 z.1 z.2, z.3);
   closed = law.closed;
-  swap = λ front t rest o d. outcome_too words words place place wide wide' f f (is_angled front) front front t.head o (λ e. e) (λ v. v) (λ u i rest'. refl) (λ u g. (g.0, g.1, over (front ++ u ∷ g.0) g.1 g.2, g.3)) (law.swap front t rest o d);
+  swap = λ front t rest o d. outcome_too words words place place wide wide' f f (is_angled front) front front t.kind o (λ e. e) (λ v. v) (λ u i rest'. refl) (λ u g. (g.0, g.1, over (front ++ u ∷ g.0) g.1 g.2, g.3)) (law.swap front t rest o d);
 }
 
 -- the same reader, with more places before a lifetime marker
@@ -477,7 +477,7 @@ placed_too {words = words} {place = place} place' {wide = wide} {f = f} too law 
   local = law.local;
   some = law.some;
   closed = law.closed;
-  swap = λ front t rest o d. outcome_too words words place place' wide wide f f (is_angled front) front front t.head o (λ e. e) (too front) (λ u i rest'. refl) (λ u g. g) (law.swap front t rest o d);
+  swap = λ front t rest o d. outcome_too words words place place' wide wide f f (is_angled front) front front t.kind o (λ e. e) (too front) (λ u i rest'. refl) (λ u g. g) (law.swap front t rest o d);
 }
 
 pub placed_none : {A : Type 0} {words : Bool} {place : Place} {wide : Form Tok A} {f : Reader Tok A} → Exchanging words wide f → Swapping words place wide f
@@ -495,7 +495,7 @@ loosened {wide = wide} {f = f} law = record {
   local = law.local;
   some = law.some;
   closed = law.closed;
-  swap = λ front t rest o d. outcome_too false true nowhere nowhere wide wide f f (is_angled front) front front t.head o (λ e. absurd (differ e)) (λ v. v) (λ u i rest'. refl) (λ u g. g) (law.swap front t rest o d);
+  swap = λ front t rest o d. outcome_too false true nowhere nowhere wide wide f f (is_angled front) front front t.kind o (λ e. absurd (differ e)) (λ v. v) (λ u i rest'. refl) (λ u g. g) (law.swap front t rest o d);
 }
 
 pub tight : {A : Type 0} {words : Bool} {wide : Form Tok A} {f : Reader Tok A} → Exchanges wide f → Exchanging words wide f
@@ -517,80 +517,80 @@ and_parts true b h = (refl, h)
 and_parts false b h = absurd cc
 
 -- all that one of this class stands for are of these classes with it, or none
-abbrev pub fair_at : List ℕ → Head → Bool
+abbrev pub fair_at : List ℕ → TokenKind → Bool
 fair_at bs h = cond (contains bs (number h)) (subset (stands_for false h) bs) (disjoint (stands_for false h) bs)
 
 -- but for `target`
 abbrev pub nearly_fair : List ℕ → Bool
-nearly_fair bs = fair_at bs heads.RefusedType && (fair_at bs heads.RegisterInteger && (fair_at bs heads.NumberedGlobal && fair_at bs heads.NumberedDefinition))
+nearly_fair bs = fair_at bs kinds.RefusedType && (fair_at bs kinds.RegisterInteger && (fair_at bs kinds.NumberedGlobal && fair_at bs kinds.NumberedDefinition))
 
 abbrev pub fair : List ℕ → Bool
-fair bs = fair_at bs heads.Target && nearly_fair bs
+fair bs = fair_at bs kinds.Target && nearly_fair bs
 
 any_test : (b : Bool) → cond b true true ≡ true
 any_test true = refl
 any_test false = refl
 
-parts : (bs : List ℕ) → nearly_fair bs ≡ true → (fair_at bs heads.RefusedType ≡ true) × (fair_at bs heads.RegisterInteger ≡ true) × (fair_at bs heads.NumberedGlobal ≡ true) × (fair_at bs heads.NumberedDefinition ≡ true)
+parts : (bs : List ℕ) → nearly_fair bs ≡ true → (fair_at bs kinds.RefusedType ≡ true) × (fair_at bs kinds.RegisterInteger ≡ true) × (fair_at bs kinds.NumberedGlobal ≡ true) × (fair_at bs kinds.NumberedDefinition ≡ true)
 parts bs e =
-    let one = and_parts (fair_at bs heads.RefusedType) (fair_at bs heads.RegisterInteger && (fair_at bs heads.NumberedGlobal && fair_at bs heads.NumberedDefinition)) e in
-    let two = and_parts (fair_at bs heads.RegisterInteger) (fair_at bs heads.NumberedGlobal && fair_at bs heads.NumberedDefinition) one.1 in
-    let three = and_parts (fair_at bs heads.NumberedGlobal) (fair_at bs heads.NumberedDefinition) two.1 in
+    let one = and_parts (fair_at bs kinds.RefusedType) (fair_at bs kinds.RegisterInteger && (fair_at bs kinds.NumberedGlobal && fair_at bs kinds.NumberedDefinition)) e in
+    let two = and_parts (fair_at bs kinds.RegisterInteger) (fair_at bs kinds.NumberedGlobal && fair_at bs kinds.NumberedDefinition) one.1 in
+    let three = and_parts (fair_at bs kinds.NumberedGlobal) (fair_at bs kinds.NumberedDefinition) two.1 in
     (one.0, two.0, three.0, three.1)
 
 -- strings are
-strings_fair : (bs : List ℕ) → fair_at bs heads.Str ≡ true
-strings_fair bs = by_test (contains bs (number heads.Str))
+strings_fair : (bs : List ℕ) → fair_at bs kinds.Str ≡ true
+strings_fair bs = by_test (contains bs (number kinds.Str))
   where
     by_test : (b : Bool) → cond b (b && true) (not b && true) ≡ true
     by_test true = refl
     by_test false = refl
 
-pub fair_but : (bs : List ℕ) → nearly_fair bs ≡ true → (h : Head) → is_target h ≡ false → fair_at bs h ≡ true
+pub fair_but : (bs : List ℕ) → nearly_fair bs ≡ true → (h : TokenKind) → is_target h ≡ false → fair_at bs h ≡ true
 unfolding is_target
-fair_but bs e heads.RefusedType n = (parts bs e).0
-fair_but bs e heads.RegisterInteger n = (parts bs e).1
-fair_but bs e heads.NumberedGlobal n = (parts bs e).2
-fair_but bs e heads.NumberedDefinition n = (parts bs e).3
-fair_but bs e heads.Str n = strings_fair bs
-fair_but bs e heads.Target n = absurd cc
+fair_but bs e kinds.RefusedType n = (parts bs e).0
+fair_but bs e kinds.RegisterInteger n = (parts bs e).1
+fair_but bs e kinds.NumberedGlobal n = (parts bs e).2
+fair_but bs e kinds.NumberedDefinition n = (parts bs e).3
+fair_but bs e kinds.Str n = strings_fair bs
+fair_but bs e kinds.Target n = absurd cc
 fair_but bs e h n = any_test (contains bs (number h))
 
-pub fair_of : (bs : List ℕ) → fair bs ≡ true → (h : Head) → fair_at bs h ≡ true
+pub fair_of : (bs : List ℕ) → fair bs ≡ true → (h : TokenKind) → fair_at bs h ≡ true
 unfolding is_target
 fair_of bs e h = by_test (is_target h) refl
   where
-    target_is : (k : Head) → is_target k ≡ true → fair_at bs k ≡ true
-    target_is heads.Target q = (and_parts (fair_at bs heads.Target) (nearly_fair bs) e).0
+    target_is : (k : TokenKind) → is_target k ≡ true → fair_at bs k ≡ true
+    target_is kinds.Target q = (and_parts (fair_at bs kinds.Target) (nearly_fair bs) e).0
     target_is k q = absurd (differ q)
 
     by_test : (b : Bool) → is_target h ≡ b → fair_at bs h ≡ true
     by_test true q = target_is h q
-    by_test false q = fair_but bs (and_parts (fair_at bs heads.Target) (nearly_fair bs) e).1 h q
+    by_test false q = fair_but bs (and_parts (fair_at bs kinds.Target) (nearly_fair bs) e).1 h q
 
 -- so a choice by these classes is the same
-pub alike : (bs : List ℕ) (h : Head) → fair_at bs h ≡ true → (u : Tok) → among tokens (stands_for false h) u ≡ true → among tokens bs u ≡ contains bs (number h)
+pub alike : (bs : List ℕ) (h : TokenKind) → fair_at bs h ≡ true → (u : Tok) → among tokens (stands_for false h) u ≡ true → among tokens bs u ≡ contains bs (number h)
 alike bs h e u i = by_test (contains bs (number h)) refl e
   where
     by_test : (b : Bool) → contains bs (number h) ≡ b → cond b (subset (stands_for false h) bs) (disjoint (stands_for false h) bs) ≡ true → among tokens bs u ≡ b
-    by_test true q s = within_of (stands_for false h) bs s (number u.head) i
-    by_test false q s = apart (stands_for false h) bs s (number u.head) i
+    by_test true q s = within_of (stands_for false h) bs s (number u.kind) i
+    by_test false q s = apart (stands_for false h) bs s (number u.kind) i
 
-pub word_at : (G : Tok → Type 0) (h : Head) → is_target h ≡ true → (w : Tok) → among tokens WORD w ≡ true → G w → WordGoes h G
+pub word_at : (G : Tok → Type 0) (h : TokenKind) → is_target h ≡ true → (w : Tok) → among tokens WORD w ≡ true → G w → WordGoes h G
 unfolding is_target
-word_at G heads.Target e w i g = (w, i, g)
+word_at G kinds.Target e w i g = (w, i, g)
 word_at G h e w i g = absurd (differ e)
 
 -- where these classes don't keep together what stands for one another, a plain word begins one of them, and no other reader tells
 -- `target`; or no other ends at it
 abbrev pub Turns : {A : Type 0} → Bool → List ℕ → Form Tok A → Reader Tok A → Type 0
 Turns {A} words bs wide f' =
-    (fair bs ≡ true) ⊎ ((nearly_fair bs ≡ true) × (contains bs (number heads.Target) ≡ false)
-    × (((words ≡ true) × (w : Tok) × (among tokens WORD w ≡ true) × Goes wide [] w × ((t : Tok) (rest : List Tok) → is_target t.head ≡ true → f' (t ∷ rest) ≡ fault_at Profile (t ∷ rest) → ⊥)) ⊎ ((t : Tok) (rest : List Tok) (o : Result A TokenFault) → is_target t.head ≡ true → f' (t ∷ rest) ≡ ends o (t ∷ rest) → ⊥)))
+    (fair bs ≡ true) ⊎ ((nearly_fair bs ≡ true) × (contains bs (number kinds.Target) ≡ false)
+    × (((words ≡ true) × (w : Tok) × (among tokens WORD w ≡ true) × Goes wide [] w × ((t : Tok) (rest : List Tok) → is_target t.kind ≡ true → f' (t ∷ rest) ≡ fault_at Profile (t ∷ rest) → ⊥)) ⊎ ((t : Tok) (rest : List Tok) (o : Result A TokenFault) → is_target t.kind ≡ true → f' (t ∷ rest) ≡ ends o (t ∷ rest) → ⊥)))
 
-pub target_apart : (bs : List ℕ) (h : Head) → contains bs (number heads.Target) ≡ false → is_target h ≡ true → contains bs (number h) ≡ false
+pub target_apart : (bs : List ℕ) (h : TokenKind) → contains bs (number kinds.Target) ≡ false → is_target h ≡ true → contains bs (number h) ≡ false
 unfolding is_target
-target_apart bs heads.Target n e = n
+target_apart bs kinds.Target n e = n
 target_apart bs h n e = absurd (differ e)
 
 pub taken_first : {A : Type 0} (bs : List ℕ) (f g : Reader Tok A) (t : Tok) (ts : List Tok) → among tokens bs t ≡ true → pick (among tokens bs) f g (t ∷ ts) ≡ f (t ∷ ts)
@@ -645,43 +645,43 @@ module _ {A : Type 0} {wide wide' : Form Tok A} {f f' : Reader Tok A} {words loo
       by_test false d = law'.local (u ∷ front) t rest rest' o d
 
   -- the first token chooses, and it is the same for all that it stands for
-  swap_fair : (t : Tok) (rest : List Tok) (o : Result A TokenFault) → fair_at bs t.head ≡ true → one_of_two (t ∷ rest) ≡ ends o (t ∷ rest) → Outcome words place of_two one_of_two [] t.head o
+  swap_fair : (t : Tok) (rest : List Tok) (o : Result A TokenFault) → fair_at bs t.kind ≡ true → one_of_two (t ∷ rest) ≡ ends o (t ∷ rest) → Outcome words place of_two one_of_two [] t.kind o
   swap_fair t rest o e d = by_test (among tokens bs t) refl d
     where
-      by_test : (b : Bool) → among tokens bs t ≡ b → cond b (f (t ∷ rest)) (f' (t ∷ rest)) ≡ ends o (t ∷ rest) → Outcome words place of_two one_of_two [] t.head o
-      by_test true q d = outcome_too words words one_place place wide of_two f one_of_two false [] [] t.head o (λ e. e) (within_one []) (λ u i rest'. sym (taken_first bs f f' u rest' (alike bs t.head e u i ∙ q))) (λ u g. goes_one [] u g) (law.swap [] t rest o d)
-      by_test false q d = outcome_too words words other_place place wide' of_two f' one_of_two false [] [] t.head o (λ e. e) (within_other []) (λ u i rest'. sym (passed bs f f' u rest' (alike bs t.head e u i ∙ q))) (λ u g. goes_other [] u g) (law'.swap [] t rest o d)
+      by_test : (b : Bool) → among tokens bs t ≡ b → cond b (f (t ∷ rest)) (f' (t ∷ rest)) ≡ ends o (t ∷ rest) → Outcome words place of_two one_of_two [] t.kind o
+      by_test true q d = outcome_too words words one_place place wide of_two f one_of_two false [] [] t.kind o (λ e. e) (within_one []) (λ u i rest'. sym (taken_first bs f f' u rest' (alike bs t.kind e u i ∙ q))) (λ u g. goes_one [] u g) (law.swap [] t rest o d)
+      by_test false q d = outcome_too words words other_place place wide' of_two f' one_of_two false [] [] t.kind o (λ e. e) (within_other []) (λ u i rest'. sym (passed bs f f' u rest' (alike bs t.kind e u i ∙ q))) (λ u g. goes_other [] u g) (law'.swap [] t rest o d)
 
   -- at `target`, where a word goes on
-  swap_word : words ≡ true → (h : Head) (o : Result A TokenFault) → WordGoes h (Goes of_two []) → (o ≡ Err Profile → ⊥) → Outcome words place of_two one_of_two [] h o
+  swap_word : words ≡ true → (h : TokenKind) (o : Result A TokenFault) → WordGoes h (Goes of_two []) → (o ≡ Err Profile → ⊥) → Outcome words place of_two one_of_two [] h o
   swap_word e h (Ok a) w n = inr (e, w)
   swap_word e h (Err Syntax) w n = word_not_told false h (Stuck one_of_two []) (Goes of_two []) (place [] tt) w
   swap_word e h (Err Profile) w n = absurd (n refl)
   swap_word e h (Err Number) w n = tt
   swap_word e h (Err Limit) w n = tt
 
-  is_other : (t : Tok) (rest : List Tok) → contains bs (number heads.Target) ≡ false → is_target t.head ≡ true → one_of_two (t ∷ rest) ≡ f' (t ∷ rest)
-  is_other t rest n q = passed bs f f' t rest (target_apart bs t.head n q)
+  is_other : (t : Tok) (rest : List Tok) → contains bs (number kinds.Target) ≡ false → is_target t.kind ≡ true → one_of_two (t ∷ rest) ≡ f' (t ∷ rest)
+  is_other t rest n q = passed bs f f' t rest (target_apart bs t.kind n q)
 
-  swap_here : Turns words bs wide f' → (t : Tok) (rest : List Tok) (o : Result A TokenFault) → one_of_two (t ∷ rest) ≡ ends o (t ∷ rest) → Outcome words place of_two one_of_two [] t.head o
-  swap_here (inl e) t rest o d = swap_fair t rest o (fair_of bs e t.head) d
-  swap_here (inr (e, n, turn)) t rest o d = by_test (is_target t.head) refl
+  swap_here : Turns words bs wide f' → (t : Tok) (rest : List Tok) (o : Result A TokenFault) → one_of_two (t ∷ rest) ≡ ends o (t ∷ rest) → Outcome words place of_two one_of_two [] t.kind o
+  swap_here (inl e) t rest o d = swap_fair t rest o (fair_of bs e t.kind) d
+  swap_here (inr (e, n, turn)) t rest o d = by_test (is_target t.kind) refl
     where
-      by_turn : is_target t.head ≡ true → ((words ≡ true) × (w : Tok) × (among tokens WORD w ≡ true) × Goes wide [] w × ((t : Tok) (rest : List Tok) → is_target t.head ≡ true → f' (t ∷ rest) ≡ fault_at Profile (t ∷ rest) → ⊥)) ⊎ ((t : Tok) (rest : List Tok) (o : Result A TokenFault) → is_target t.head ≡ true → f' (t ∷ rest) ≡ ends o (t ∷ rest) → ⊥) → Outcome words place of_two one_of_two [] t.head o
-      by_turn q (inl (v, w, i, g, quiet)) = swap_word v t.head o (word_at (Goes of_two []) t.head q w i (goes_one [] w g)) (λ p. quiet t rest q (sym (is_other t rest n q) ∙ d ∙ ap (λ (x : Result A TokenFault). ends x (t ∷ rest)) p))
+      by_turn : is_target t.kind ≡ true → ((words ≡ true) × (w : Tok) × (among tokens WORD w ≡ true) × Goes wide [] w × ((t : Tok) (rest : List Tok) → is_target t.kind ≡ true → f' (t ∷ rest) ≡ fault_at Profile (t ∷ rest) → ⊥)) ⊎ ((t : Tok) (rest : List Tok) (o : Result A TokenFault) → is_target t.kind ≡ true → f' (t ∷ rest) ≡ ends o (t ∷ rest) → ⊥) → Outcome words place of_two one_of_two [] t.kind o
+      by_turn q (inl (v, w, i, g, quiet)) = swap_word v t.kind o (word_at (Goes of_two []) t.kind q w i (goes_one [] w g)) (λ p. quiet t rest q (sym (is_other t rest n q) ∙ d ∙ ap (λ (x : Result A TokenFault). ends x (t ∷ rest)) p))
       by_turn q (inr never) = absurd (never t rest o q (sym (is_other t rest n q) ∙ d))
 
-      by_test : (b : Bool) → is_target t.head ≡ b → Outcome words place of_two one_of_two [] t.head o
+      by_test : (b : Bool) → is_target t.kind ≡ b → Outcome words place of_two one_of_two [] t.kind o
       by_test true q = by_turn q turn
-      by_test false q = swap_fair t rest o (fair_but bs e t.head q) d
+      by_test false q = swap_fair t rest o (fair_but bs e t.kind q) d
 
-  swap_alt : (front : List Tok) (t : Tok) (rest : List Tok) (o : Result A TokenFault) → one_of_two (front ++ t ∷ rest) ≡ ends o (t ∷ rest) → Outcome words place of_two one_of_two front t.head o
+  swap_alt : (front : List Tok) (t : Tok) (rest : List Tok) (o : Result A TokenFault) → one_of_two (front ++ t ∷ rest) ≡ ends o (t ∷ rest) → Outcome words place of_two one_of_two front t.kind o
   swap_alt [] t rest o d = swap_here turns t rest o d
   swap_alt (v ∷ front) t rest o d = by_test (among tokens bs v) refl d
     where
-      by_test : (b : Bool) → among tokens bs v ≡ b → cond b (f (v ∷ (front ++ t ∷ rest))) (f' (v ∷ (front ++ t ∷ rest))) ≡ ends o (t ∷ rest) → Outcome words place of_two one_of_two (v ∷ front) t.head o
-      by_test true q d = outcome_too words words one_place place wide of_two f one_of_two (is_angled (v ∷ front)) (v ∷ front) (v ∷ front) t.head o (λ e. e) (within_one (v ∷ front)) (λ u i rest'. sym (taken_first bs f f' v (front ++ u ∷ rest') q)) (λ u g. goes_one (v ∷ front) u g) (law.swap (v ∷ front) t rest o d)
-      by_test false q d = outcome_too words words other_place place wide' of_two f' one_of_two (is_angled (v ∷ front)) (v ∷ front) (v ∷ front) t.head o (λ e. e) (within_other (v ∷ front)) (λ u i rest'. sym (passed bs f f' v (front ++ u ∷ rest') q)) (λ u g. goes_other (v ∷ front) u g) (law'.swap (v ∷ front) t rest o d)
+      by_test : (b : Bool) → among tokens bs v ≡ b → cond b (f (v ∷ (front ++ t ∷ rest))) (f' (v ∷ (front ++ t ∷ rest))) ≡ ends o (t ∷ rest) → Outcome words place of_two one_of_two (v ∷ front) t.kind o
+      by_test true q d = outcome_too words words one_place place wide of_two f one_of_two (is_angled (v ∷ front)) (v ∷ front) (v ∷ front) t.kind o (λ e. e) (within_one (v ∷ front)) (λ u i rest'. sym (taken_first bs f f' v (front ++ u ∷ rest') q)) (λ u g. goes_one (v ∷ front) u g) (law.swap (v ∷ front) t rest o d)
+      by_test false q d = outcome_too words words other_place place wide' of_two f' one_of_two (is_angled (v ∷ front)) (v ∷ front) (v ∷ front) t.kind o (λ e. e) (within_other (v ∷ front)) (λ u i rest'. sym (passed bs f f' v (front ++ u ∷ rest') q)) (λ u g. goes_other (v ∷ front) u g) (law'.swap (v ∷ front) t rest o d)
 
   closed_alt : (front rest : List Tok) (a : A) → one_of_two (front ++ rest) ≡ reads a rest → is_angled front ≡ true → loose ≡ true
   closed_alt [] rest a d q = absurd (differ q)
@@ -725,7 +725,7 @@ limited {A} {words} {loose} {place} wide some = record {
   local = λ front t rest rest' o d. let h = limit_ends front t rest o d in rw (h.0, h.1) refl;
   some = some;
   closed = λ front rest a d q. absurd cc;
-  swap = λ front t rest o d. subst (λ (x : Result A TokenFault). Outcome words place wide (fault_at Limit) front t.head x) (sym (limit_ends front t rest o d).1) tt;
+  swap = λ front t rest o d. subst (λ (x : Result A TokenFault). Outcome words place wide (fault_at Limit) front t.kind x) (sym (limit_ends front t rest o d).1) tt;
 }
 
 either_same : {A : Type 0} (wide : Form Tok A) (ts : List Tok) (a : A) → form.either wide wide ts a → wide ts a
@@ -771,7 +771,7 @@ abbrev pub Begins : {A : Type 0} → Bool → List ℕ → Form Tok A → Type 0
 Begins words bs wide = (fair bs ≡ true) ⊎ ((nearly_fair bs ≡ true) × (words ≡ true) × (w : Tok) × (among tokens WORD w ≡ true) × Goes wide [] w)
 
 module _ {A : Type 0} {words : Bool} (wide : Form Tok A) (f : Reader Tok A) (bs : List ℕ) {one_place : Place} (place : Place) (within_first : (front : List Tok) → one_place front tt → place front tt) (within_further : (one two : List Tok) (a : A) → wide one a → place two tt → place (one ++ two) tt)
-    (begins : Begins words bs wide) (outside : words ≡ true → contains bs (number heads.Target) ≡ false) (law : Swapping words one_place wide f) where
+    (begins : Begins words bs wide) (outside : words ≡ true → contains bs (number kinds.Target) ≡ false) (law : Swapping words one_place wide f) where
   abbrev one_more : Form Tok (List A)
   one_more = form.◌>>=◌ wide (λ a. form.◌>>=◌ (Star wide) (λ more. form.gives (a ∷ more)))
 
@@ -800,12 +800,12 @@ module _ {A : Type 0} {words : Bool} (wide : Form Tok A) (f : Reader Tok A) (bs 
   more_turns (inl e) = inl e
   more_turns (inr (e, v, w, i, g)) = inr (e, outside v, inl (v, w, i, (g.0, g.1 ∷ [], (w ∷ g.0, [], g.1, sym (append-nil (w ∷ g.0)), g.2, ([], [], [], refl, refl, (refl, refl))), g.3), λ t rest _ d. never_told [] t rest d))
 
-  none_at : (room : ℕ) (t : Tok) (rest : List Tok) → contains bs (number t.head) ≡ false → many_at (among tokens bs) f room (t ∷ rest) ≡ reads [] (t ∷ rest)
+  none_at : (room : ℕ) (t : Tok) (rest : List Tok) → contains bs (number t.kind) ≡ false → many_at (among tokens bs) f room (t ∷ rest) ≡ reads [] (t ∷ rest)
   none_at zero t rest e = rw e refl
   none_at (suc room) t rest e = rw e refl
 
-  follows_one : (room : ℕ) → words ≡ true → (a : A) (t : Tok) (rest : List Tok) (o : Result (List A) TokenFault) → is_target t.head ≡ true → (many_at (among tokens bs) f room >>= λ more. done (a ∷ more)) (t ∷ rest) ≡ ends o (t ∷ rest) → MayFollow words o
-  follows_one room v a t rest o q d = subst (λ (b : Bool). MayFollow b o) (sym v) (valued_end (a ∷ []) (t ∷ rest) o (sym (ap (λ (r : Result (List A × List Tok) Fault). follow r (λ more. done (a ∷ more))) (none_at room t rest (target_apart bs t.head (outside v) q))) ∙ d))
+  follows_one : (room : ℕ) → words ≡ true → (a : A) (t : Tok) (rest : List Tok) (o : Result (List A) TokenFault) → is_target t.kind ≡ true → (many_at (among tokens bs) f room >>= λ more. done (a ∷ more)) (t ∷ rest) ≡ ends o (t ∷ rest) → MayFollow words o
+  follows_one room v a t rest o q d = subst (λ (b : Bool). MayFollow b o) (sym v) (valued_end (a ∷ []) (t ∷ rest) o (sym (ap (λ (r : Result (List A × List Tok) Fault). follow r (λ more. done (a ∷ more))) (none_at room t rest (target_apart bs t.kind (outside v) q))) ∙ d))
 
   follows_all : words ≡ true → (more : List A) (a : A) (t : Tok) (rest : List Tok) (o : Result (List A) TokenFault) → reads (a ∷ more) (t ∷ rest) ≡ ends o (t ∷ rest) → MayFollow words o
   follows_all v more a t rest o d = subst (λ (b : Bool). MayFollow b o) (sym v) (valued_end (a ∷ more) (t ∷ rest) o d)
@@ -863,7 +863,7 @@ module _ {A : Type 0} {words : Bool} (wide : Form Tok A) (f : Reader Tok A) (bs 
     all_is : (front : List Tok) (u : Tok) (rest : List Tok) (o : Result (List A) TokenFault) → all_at (front ++ u ∷ rest) ≡ ends o (u ∷ rest) → at_most (suc (length front)) (front ++ u ∷ rest) ≡ ends o (u ∷ rest)
     all_is front u rest o d = enough (length (front ++ u ∷ rest)) (suc (length front)) (front ++ u ∷ rest) front (u ∷ rest) o refl (omega (arith, length-append front (u ∷ rest))) (omega arith) d
 
-    swap_all : (front : List Tok) (h : Head) (o : Result (List A) TokenFault) → Outcome words place (Star wide) (at_most (suc (length front))) front h o → Outcome words place (Star wide) all_at front h o
+    swap_all : (front : List Tok) (h : TokenKind) (o : Result (List A) TokenFault) → Outcome words place (Star wide) (at_most (suc (length front))) front h o → Outcome words place (Star wide) all_at front h o
     swap_all front h (Ok as') n = ok_too words words place place (Star wide) (Star wide) (at_most (suc (length front))) all_at (is_angled front) front front h (λ e. e) as' as' (λ u i s rest. enough_for front (suc (length front)) (omega arith) u rest (Ok as') (s rest)) (λ u g. g) n
     swap_all front h (Err k) n = err_too words words place place (Star wide) (Star wide) (at_most (suc (length front))) all_at (is_angled front) front front h k (λ v. v) (λ u i s rest. let r = s rest in (r.0, r.1, enough_for front (suc (length front)) (omega arith) u rest (Err r.0) r.2)) (λ u g. g) n
 
@@ -874,7 +874,7 @@ module _ {A : Type 0} {words : Bool} (wide : Form Tok A) (f : Reader Tok A) (bs 
       local = λ front t rest rest' o d. enough_for front (suc (length front)) (omega arith) t rest' o ((many (suc (length front))).local front t rest rest' o (all_is front t rest o d));
       some = ([], [], refl, tt);
       closed = λ front rest as' d q. (many (length (front ++ rest))).closed front rest as' d q;
-      swap = λ front t rest o d. swap_all front t.head o ((many (suc (length front))).swap front t rest o (all_is front t rest o d));
+      swap = λ front t rest o d. swap_all front t.kind o ((many (suc (length front))).swap front t rest o (all_is front t rest o d));
     }
 
 -- as many as there are of what isn't empty
@@ -884,16 +884,16 @@ star {wide = wide} {f = f} bs e law some = all wide f bs nowhere (λ front v. v)
 -- ---- single tokens
 
 -- what a meaning says at a token of this class
-abbrev pub SaysAt : {A : Type 0} → Place → Form Tok A → (Tok → Result A TokenFault) → Head → TokenFault → Type 0
+abbrev pub SaysAt : {A : Type 0} → Place → Form Tok A → (Tok → Result A TokenFault) → TokenKind → TokenFault → Type 0
 SaysAt place wide meaning h Syntax = NotTold false h (λ u. (k : TokenFault) × (IsBound k → ⊥) × (meaning u ≡ Err k)) (Goes wide []) (place [] tt)
 SaysAt place wide meaning h Profile = IsTold false h (λ u. (k : TokenFault) × (IsBound k → ⊥) × (meaning u ≡ Err k)) (Goes wide [])
 SaysAt place wide meaning h Number = Unit {0}
 SaysAt place wide meaning h Limit = Unit {0}
 
-abbrev pub Says : {A : Type 0} → Form Tok A → (Tok → Result A TokenFault) → Head → TokenFault → Type 0
+abbrev pub Says : {A : Type 0} → Form Tok A → (Tok → Result A TokenFault) → TokenKind → TokenFault → Type 0
 Says wide meaning h k = SaysAt nowhere wide meaning h k
 
-module _ {A : Type 0} (loose : Bool) (place : Place) (wide : Form Tok A) (meaning : Tok → Result A TokenFault) (refuses : (t : Tok) (a : A) → among tokens OPEN_ANGLE t ≡ true → meaning t ≡ Ok a → loose ≡ true) (right : (t : Tok) (a : A) → meaning t ≡ Ok a → wide (t ∷ []) a) (some : (ts : List Tok) × (a : A) × wide ts a × AllReal tokens ts) (says : (t : Tok) (k : TokenFault) → meaning t ≡ Err k → SaysAt place wide meaning t.head k) where
+module _ {A : Type 0} (loose : Bool) (place : Place) (wide : Form Tok A) (meaning : Tok → Result A TokenFault) (refuses : (t : Tok) (a : A) → among tokens OPEN_ANGLE t ≡ true → meaning t ≡ Ok a → loose ≡ true) (right : (t : Tok) (a : A) → meaning t ≡ Ok a → wide (t ∷ []) a) (some : (ts : List Tok) × (a : A) × wide ts a × AllReal tokens ts) (says : (t : Tok) (k : TokenFault) → meaning t ≡ Err k → SaysAt place wide meaning t.kind k) where
   sound_means : (t : Tok) (ts rest : List Tok) (a : A) (m : Result A TokenFault) → meaning t ≡ m → token_means t ts m ≡ reads a rest → (front : List Tok) × (t ∷ ts ≡ front ++ rest) × wide front a
   sound_means t ts rest a (Ok b) d e = let h = reads_is b a ts rest e in (t ∷ [], ap (λ (x : List Tok). t ∷ x) h.1, right t a (d ∙ ap (λ (x : A). Ok x) h.0))
   sound_means t ts rest a (Err k) d e = absurd cc
@@ -932,19 +932,19 @@ module _ {A : Type 0} (loose : Bool) (place : Place) (wide : Form Tok A) (meanin
       let h = read_before v t front rest o (meaning v) d in
       ap (token_means v (front ++ t ∷ rest')) h.3 ∙ ap (λ (x : List Tok). reads h.1 (x ++ t ∷ rest')) h.0 ∙ ap (λ (x : Result A TokenFault). ends x (t ∷ rest')) (sym h.2)
 
-  by_kind : (h : Head) (k : TokenFault) → SaysAt place wide meaning h k → Outcome false place wide (token_at meaning) [] h (Err k)
+  by_kind : (h : TokenKind) (k : TokenFault) → SaysAt place wide meaning h k → Outcome false place wide (token_at meaning) [] h (Err k)
   by_kind h Syntax s = not_told_too false h (λ u. (k : TokenFault) × (IsBound k → ⊥) × (meaning u ≡ Err k)) (Stuck (token_at meaning) []) (Goes wide []) (Goes wide []) (place [] tt) (place [] tt) (λ u i r rest. (r.0, r.1, ap (token_means u rest) r.2)) (λ u g. g) (λ v. v) s
   by_kind h Profile s = told_too false h (λ u. (k : TokenFault) × (IsBound k → ⊥) × (meaning u ≡ Err k)) (Stuck (token_at meaning) []) (Goes wide []) (Goes wide []) (λ u i r rest. (r.0, r.1, ap (token_means u rest) r.2)) (λ u g. g) s
   by_kind h Number s = tt
   by_kind h Limit s = tt
 
-  swap_token : (front : List Tok) (t : Tok) (rest : List Tok) (o : Result A TokenFault) → token_at meaning (front ++ t ∷ rest) ≡ ends o (t ∷ rest) → Outcome false place wide (token_at meaning) front t.head o
+  swap_token : (front : List Tok) (t : Tok) (rest : List Tok) (o : Result A TokenFault) → token_at meaning (front ++ t ∷ rest) ≡ ends o (t ∷ rest) → Outcome false place wide (token_at meaning) front t.kind o
   swap_token [] t rest o d =
       let h = fault_here t rest o (meaning t) d in
-      subst (λ (x : Result A TokenFault). Outcome false place wide (token_at meaning) [] t.head x) (sym h.1) (by_kind t.head h.0 (says t h.0 h.2))
+      subst (λ (x : Result A TokenFault). Outcome false place wide (token_at meaning) [] t.kind x) (sym h.1) (by_kind t.kind h.0 (says t h.0 h.2))
   swap_token (v ∷ front) t rest o d =
       let h = read_before v t front rest o (meaning v) d in
-      subst (λ (x : Result A TokenFault). Outcome false place wide (token_at meaning) (v ∷ front) t.head x) (sym h.2) (inl (λ u i rest'. ap (token_means v (front ++ u ∷ rest')) h.3 ∙ ap (λ (x : List Tok). reads h.1 (x ++ u ∷ rest')) h.0))
+      subst (λ (x : Result A TokenFault). Outcome false place wide (token_at meaning) (v ∷ front) t.kind x) (sym h.2) (inl (λ u i rest'. ap (token_means v (front ++ u ∷ rest')) h.3 ∙ ap (λ (x : List Tok). reads h.1 (x ++ u ∷ rest')) h.0))
 
   closed_token : (front rest : List Tok) (a : A) → token_at meaning (front ++ rest) ≡ reads a rest → is_angled front ≡ true → loose ≡ true
   closed_token [] rest a d q = absurd (differ q)
@@ -961,47 +961,47 @@ module _ {A : Type 0} (loose : Bool) (place : Place) (wide : Form Tok A) (meanin
   pub single_at : Swaps false loose place wide (token_at meaning)
   single_at = record { sound = sound_token; placed = placed_token; local = local_token; some = some; closed = closed_token; swap = swap_token }
 
-pub single : {A : Type 0} (wide : Form Tok A) (meaning : Tok → Result A TokenFault) → ((t : Tok) (a : A) → among tokens OPEN_ANGLE t ≡ true → meaning t ≡ Ok a → ⊥) → ((t : Tok) (a : A) → meaning t ≡ Ok a → wide (t ∷ []) a) → (ts : List Tok) × (a : A) × wide ts a × AllReal tokens ts → ((t : Tok) (k : TokenFault) → meaning t ≡ Err k → Says wide meaning t.head k) → Exchanges wide (token_at meaning)
+pub single : {A : Type 0} (wide : Form Tok A) (meaning : Tok → Result A TokenFault) → ((t : Tok) (a : A) → among tokens OPEN_ANGLE t ≡ true → meaning t ≡ Ok a → ⊥) → ((t : Tok) (a : A) → meaning t ≡ Ok a → wide (t ∷ []) a) → (ts : List Tok) × (a : A) × wide ts a × AllReal tokens ts → ((t : Tok) (k : TokenFault) → meaning t ≡ Err k → Says wide meaning t.kind k) → Exchanges wide (token_at meaning)
 single wide meaning refuses right some says = single_at false nowhere wide meaning (λ t a i e. absurd (refuses t a i e)) right some says
 
 -- ---- what may end anywhere, but at none that is left out only in some places
 
 -- those that stand for others
 abbrev pub STAND_INS : List ℕ
-STAND_INS = number heads.RefusedType ∷ number heads.Target ∷ number heads.RegisterInteger ∷ number heads.NumberedGlobal ∷ number heads.NumberedDefinition ∷ []
+STAND_INS = number kinds.RefusedType ∷ number kinds.Target ∷ number kinds.RegisterInteger ∷ number kinds.NumberedGlobal ∷ number kinds.NumberedDefinition ∷ []
 
 abbrev pub SOMEWHERE : List ℕ
-SOMEWHERE = number heads.LifetimeMarker ∷ STAND_INS
+SOMEWHERE = number kinds.LifetimeMarker ∷ STAND_INS
 
 -- or stand for a string
 abbrev pub TELLING : List ℕ
-TELLING = number heads.Str ∷ SOMEWHERE
+TELLING = number kinds.Str ∷ SOMEWHERE
 
 -- or behind `<`
 abbrev pub STEADY : List ℕ
-STEADY = number heads.Number ∷ TELLING
+STEADY = number kinds.Number ∷ TELLING
 
-module _ {A : Type 0} {g wide : Form Tok A} {f : Reader Tok A} {xs : List ℕ} {e : Bool} (rule : Rule tokens g wide f xs [] e) (never : (front : List Tok) (t : Tok) (rest : List Tok) (k : TokenFault) → f (front ++ t ∷ rest) ≡ fault_at k (t ∷ rest) → contains STEADY (number t.head) ≡ true → ⊥) where
-  stuck_nowhere : (h : Head) (k : TokenFault) (angled : Bool) (front : List Tok) → (contains STEADY (number h) ≡ true → ⊥) → OutcomeAt false nowhere wide f angled front h (Err k)
+module _ {A : Type 0} {g wide : Form Tok A} {f : Reader Tok A} {xs : List ℕ} {e : Bool} (rule : Rule tokens g wide f xs [] e) (never : (front : List Tok) (t : Tok) (rest : List Tok) (k : TokenFault) → f (front ++ t ∷ rest) ≡ fault_at k (t ∷ rest) → contains STEADY (number t.kind) ≡ true → ⊥) where
+  stuck_nowhere : (h : TokenKind) (k : TokenFault) (angled : Bool) (front : List Tok) → (contains STEADY (number h) ≡ true → ⊥) → OutcomeAt false nowhere wide f angled front h (Err k)
   stuck_nowhere h Number angled front n = tt
   stuck_nowhere h Limit angled front n = tt
-  stuck_nowhere heads.RefusedType k angled front n = absurd (n refl)
-  stuck_nowhere heads.Target k angled front n = absurd (n refl)
-  stuck_nowhere heads.RegisterInteger k angled front n = absurd (n refl)
-  stuck_nowhere heads.NumberedGlobal k angled front n = absurd (n refl)
-  stuck_nowhere heads.NumberedDefinition k angled front n = absurd (n refl)
-  stuck_nowhere heads.LifetimeMarker k angled front n = absurd (n refl)
-  stuck_nowhere heads.Str k angled front n = absurd (n refl)
-  stuck_nowhere heads.Number k angled front n = absurd (n refl)
+  stuck_nowhere kinds.RefusedType k angled front n = absurd (n refl)
+  stuck_nowhere kinds.Target k angled front n = absurd (n refl)
+  stuck_nowhere kinds.RegisterInteger k angled front n = absurd (n refl)
+  stuck_nowhere kinds.NumberedGlobal k angled front n = absurd (n refl)
+  stuck_nowhere kinds.NumberedDefinition k angled front n = absurd (n refl)
+  stuck_nowhere kinds.LifetimeMarker k angled front n = absurd (n refl)
+  stuck_nowhere kinds.Str k angled front n = absurd (n refl)
+  stuck_nowhere kinds.Number k angled front n = absurd (n refl)
   stuck_nowhere h Syntax angled front n = tt
   stuck_nowhere h Profile angled front n = tt
 
-  pub ends_anywhere : (angled : Bool) (front : List Tok) (t : Tok) (rest : List Tok) (o : Result A TokenFault) → f (front ++ t ∷ rest) ≡ ends o (t ∷ rest) → OutcomeAt false nowhere wide f angled front t.head o
+  pub ends_anywhere : (angled : Bool) (front : List Tok) (t : Tok) (rest : List Tok) (o : Result A TokenFault) → f (front ++ t ∷ rest) ≡ ends o (t ∷ rest) → OutcomeAt false nowhere wide f angled front t.kind o
   ends_anywhere angled front t rest (Ok a) d =
       let s = rule.law.sound (front ++ t ∷ rest) (t ∷ rest) a d in
       let same = cut_is front (t ∷ rest) s.0 (t ∷ rest) s.1 refl in
       inl (λ u i rest'. ap (λ (y : List Tok). f (y ++ u ∷ rest')) same.0 ∙ rule.law.complete s.0 (u ∷ rest') a s.2 refl)
-  ends_anywhere angled front t rest (Err k) d = stuck_nowhere t.head k angled front (λ p. never front t rest k d p)
+  ends_anywhere angled front t rest (Err k) d = stuck_nowhere t.kind k angled front (λ p. never front t rest k d p)
 
   pub anywhere : {loose : Bool} → ((front rest : List Tok) (a : A) → f (front ++ rest) ≡ reads a rest → is_angled front ≡ true → loose ≡ true) → Swaps false loose nowhere wide f
   anywhere closed = of_rule rule closed (λ front t rest o d. ends_anywhere (is_angled front) front t rest o d)
@@ -1011,7 +1011,7 @@ pub up_to : {A : Type 0} {wide : Form Tok A} {f : Reader Tok A} (bs : List ℕ) 
 up_to {wide = wide} {f = f} bs e law room = many wide f bs nowhere (λ front v. v) (λ one two a s v. v) (inl e) (λ v. absurd (differ v)) law room
 
 -- of what may end where a plain word goes on
-pub up_to_words : {A : Type 0} {one_place : Place} (place : Place) {wide : Form Tok A} {f : Reader Tok A} (bs : List ℕ) → fair bs ≡ true → contains bs (number heads.Target) ≡ false → ((front : List Tok) → one_place front tt → place front tt) → ((one two : List Tok) (a : A) → wide one a → place two tt → place (one ++ two) tt) → Swapping true one_place wide f → (room : ℕ)
+pub up_to_words : {A : Type 0} {one_place : Place} (place : Place) {wide : Form Tok A} {f : Reader Tok A} (bs : List ℕ) → fair bs ≡ true → contains bs (number kinds.Target) ≡ false → ((front : List Tok) → one_place front tt → place front tt) → ((one two : List Tok) (a : A) → wide one a → place two tt → place (one ++ two) tt) → Swapping true one_place wide f → (room : ℕ)
     → Swapping true place (Star wide) (many_at (among tokens bs) f room)
 up_to_words place {wide = wide} {f = f} bs e n first further law room = many wide f bs place first further (inl e) (λ _. n) law room
 
@@ -1023,7 +1023,7 @@ same_reader {words = words} {place = place} {wide = wide} {f = f} {f' = f'} same
   local = λ front t rest rest' o d. sym (same (front ++ t ∷ rest')) ∙ law.local front t rest rest' o (same (front ++ t ∷ rest) ∙ d);
   some = law.some;
   closed = λ front rest a d q. law.closed front rest a (same (front ++ rest) ∙ d) q;
-  swap = λ front t rest o d. outcome_too words words place place wide wide f f' (is_angled front) front front t.head o (λ e. e) (λ v. v) (λ u i rest'. same (front ++ u ∷ rest')) (λ u g. g) (law.swap front t rest o (same (front ++ t ∷ rest) ∙ d));
+  swap = λ front t rest o d. outcome_too words words place place wide wide f f' (is_angled front) front front t.kind o (λ e. e) (λ v. v) (λ u i rest'. same (front ++ u ∷ rest')) (λ u g. g) (law.swap front t rest o (same (front ++ t ∷ rest) ∙ d));
 }
 
 -- what begins with a token isn't empty
@@ -1042,5 +1042,5 @@ pub goes_alone : {A : Type 0} {wide : Form Tok A} {f : Reader Tok A} → Exchang
 goes_alone {wide = wide} law w r a e = let s = law.sound (w ∷ []) [] a e in ([], a, subst (λ (y : List Tok). wide y a) (sym (s.1 ∙ append-nil s.0)) s.2, (r, tt))
 
 -- as many as there are, of which a plain word begins one
-pub star_words : {A : Type 0} {wide : Form Tok A} {f : Reader Tok A} (bs : List ℕ) → nearly_fair bs ≡ true → (w : Tok) → among tokens WORD w ≡ true → Goes wide [] w → contains bs (number heads.Target) ≡ false → Exchanges wide f → ((a : A) → wide [] a → ⊥) → Exchanging true (Star wide) (star_at (among tokens bs) f)
+pub star_words : {A : Type 0} {wide : Form Tok A} {f : Reader Tok A} (bs : List ℕ) → nearly_fair bs ≡ true → (w : Tok) → among tokens WORD w ≡ true → Goes wide [] w → contains bs (number kinds.Target) ≡ false → Exchanges wide f → ((a : A) → wide [] a → ⊥) → Exchanging true (Star wide) (star_at (among tokens bs) f)
 star_words {wide = wide} {f = f} bs e w i g n law some = all wide f bs nowhere (λ front v. v) (λ one two a s v. v) (inr (e, refl, w, i, g)) (λ _. n) (loosened law) some

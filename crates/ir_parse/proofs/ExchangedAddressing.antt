@@ -2,10 +2,10 @@
 use Rattle.std.proofs.Common.{◌≡◌, ℕ, ◌≤◌, ◌^◌, nat_lt, max, Bool, true, false, cond, ◌&&◌, not, Option, Some, None, [], ◌∷◌, Result, Ok, Err, refl, ap, subst, arith}
 use Rattle.std.proofs.Math.Nat.{pow-le-pow_right}
 use Rattle.std.specs.Prelude.{codes}
-use Rattle.ir_lex.specs.Heads.{number}
+use Rattle.ir_lex.specs.TokenKinds.{number}
 use Rattle.ir_lex.specs.Tok.{Tok}
-use Rattle.ir_lex.specs.declared.head.Head.TheVariants as heads
-use Rattle.ir_lex.specs.declared.token.Kind.TheVariants as kinds
+use Rattle.ir_lex.specs.declared.token_kind.TokenKind.TheVariants as kinds
+use Rattle.ir_lex.specs.declared.token.TokenForm.TheVariants as forms
 use Rattle.ir_tree.specs.declared.operand.Reg.TheVariants.{Ptr}
 use Rattle.ir_read.specs.Alphabet.{among}
 use Rattle.ir_read.specs.Chained.{Chain, chain_at}
@@ -37,7 +37,7 @@ use Rattle.ir_parse.proofs.ExchangedValues.{argument_exchanged, operand_exchange
 use Rattle.ir_parse.proofs.ExchangedWords.{comma_exchanged}
 
 abbrev one : Tok
-one = sample kinds.Number heads.Number (codes "1")
+one = sample forms.Number kinds.Number (codes "1")
 
 -- an integer has at least one bit, so 1 is a literal of it
 one_below : (w : ℕ) → nat_lt 1 (2 ^ max 1 w) ≡ true
@@ -66,12 +66,12 @@ module _ (fits : ℕ → Bool) (w : ℕ) where
       by_fit m true e = e
       by_fit m false e = absurd cc
 
-      by_class : (b : Bool) (o : Option ℕ) → cond (b && passes fits o) (refuse Limit) (cond b (in_range (fitting fits o)) (refuse (refusal (number t.head)))) ≡ Ok n → cond b (in_range (fitting (any_slots pointer) o)) (refuse (refusal (number t.head))) ≡ Ok n
+      by_class : (b : Bool) (o : Option ℕ) → cond (b && passes fits o) (refuse Limit) (cond b (in_range (fitting fits o)) (refuse (refusal (number t.kind)))) ≡ Ok n → cond b (in_range (fitting (any_slots pointer) o)) (refuse (refusal (number t.kind))) ≡ Ok n
       by_class true None e = absurd cc
       by_class true (Some m) e = by_fit m (fits m) e
       by_class false o e = absurd cc
 
-  count_outside : (t : Tok) → among tokens NUMBER t ≡ false → count_means fits w t ≡ Err (refusal (number t.head))
+  count_outside : (t : Tok) → among tokens NUMBER t ≡ false → count_means fits w t ≡ Err (refusal (number t.kind))
   unfolding count_means is_valued
   count_outside t e = rw e refl
 
@@ -83,7 +83,7 @@ module _ (fits : ℕ → Bool) (w : ℕ) where
       by_fit m true d = absurd cc
       by_fit m false d = subst IsBound (err_is Limit k d) tt
 
-      by_class : (b : Bool) (o : Option ℕ) → b ≡ true → cond (b && passes fits o) (refuse Limit) (cond b (in_range (fitting fits o)) (refuse (refusal (number t.head)))) ≡ refuse k → IsBound k
+      by_class : (b : Bool) (o : Option ℕ) → b ≡ true → cond (b && passes fits o) (refuse Limit) (cond b (in_range (fitting fits o)) (refuse (refusal (number t.kind)))) ≡ refuse k → IsBound k
       by_class true None p d = subst IsBound (err_is Number k d) tt
       by_class true (Some m) p d = by_fit m (fits m) d
       by_class false o p d = absurd cc
@@ -125,7 +125,7 @@ further_exchanged s = seq comma_exchanged (λ _. behind_comma_exchanged s)
 
 further_some : (s : Bool) (x : Option Argument × Bool) → further any_shape s [] x → ⊥
 unfolding further
-further_some s x q = token_begins (is_class tokens refusal (number heads.Comma)) _ x q
+further_some s x q = token_begins (is_class tokens refusal (number kinds.Comma)) _ x q
 
 pub more_exchanged : Exchanges (Chain phis.anywhere (further any_shape) false) (chain_at phis.anywhere begins further_at false)
 more_exchanged = chain phis.anywhere (λ _. COMMA) (further any_shape) further_at further_exchanged further_some (λ _. ([], [], (refl, refl), tt)) (λ _ _. refl) false

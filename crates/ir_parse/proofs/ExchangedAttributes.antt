@@ -2,11 +2,11 @@
 use Rattle.std.proofs.Common.{◌≡◌, ℕ, Bool, true, false, cond, nat_eq, ◌&&◌, ◌||◌, not, Some, List, [], ◌∷◌, Result, Ok, Err, refl, ap, subst}
 use Rattle.std.specs.List.{fold}
 use Rattle.std.specs.Prelude.{codes}
-use Rattle.ir_lex.specs.Heads.{number}
+use Rattle.ir_lex.specs.TokenKinds.{number}
 use Rattle.ir_lex.specs.Rows.{begins}
 use Rattle.ir_lex.specs.Tok.{Tok}
-use Rattle.ir_lex.specs.declared.head.Head.TheVariants as heads
-use Rattle.ir_lex.specs.declared.token.Kind.TheVariants as kinds
+use Rattle.ir_lex.specs.declared.token_kind.TokenKind.TheVariants as kinds
+use Rattle.ir_lex.specs.declared.token.TokenForm.TheVariants as forms
 use Rattle.ir_read.specs.Alphabet.{contains, among}
 use Rattle.ir_read.specs.Forms as form
 use Rattle.ir_read.specs.Lawful.{IsBound}
@@ -34,22 +34,22 @@ use Rattle.ir_parse.proofs.ExchangedTokens.{a_word, a_word_real, of_token, refus
 use Rattle.ir_parse.proofs.ExchangedWords.{align_exchanged, attributes_exchanged, close_brace_exchanged, equals_exchanged, number_exchanged, open_brace_exchanged, parameter_group_exchanged, parameter_word_exchanged, string_exchanged}
 
 abbrev zero_group : Tok
-zero_group = sample kinds.Group heads.Group (codes "#0")
+zero_group = sample forms.Group kinds.Group (codes "#0")
 
 abbrev fault : TokenFault → Result ℕ TokenFault
 fault k = Err k
 
-alignment_outside : (t : Tok) → among tokens NUMBER t ≡ false → is_alignment t ≡ Err (refusal (number t.head))
+alignment_outside : (t : Tok) → among tokens NUMBER t ≡ false → is_alignment t ≡ Err (refusal (number t.kind))
 unfolding is_alignment alignment_of
-alignment_outside t p = by_class (nat_eq (number t.head) (number heads.Number)) p
+alignment_outside t p = by_class (nat_eq (number t.kind) (number kinds.Number)) p
   where
-    by_class : (b : Bool) → b || false ≡ false → cond b (cond (contains ALIGNMENTS (decimal t.text) && not (begins 45 t.text)) (Ok (decimal t.text)) (fault Number)) (fault (refusal (number t.head))) ≡ fault (refusal (number t.head))
+    by_class : (b : Bool) → b || false ≡ false → cond b (cond (contains ALIGNMENTS (decimal t.text) && not (begins 45 t.text)) (Ok (decimal t.text)) (fault Number)) (fault (refusal (number t.kind))) ≡ fault (refusal (number t.kind))
     by_class true p = absurd cc
     by_class false p = refl
 
 alignment_inside : (t : Tok) → among tokens NUMBER t ≡ true → (k : TokenFault) → is_alignment t ≡ Err k → IsBound k
 unfolding is_alignment alignment_of
-alignment_inside t p k d = by_class (nat_eq (number t.head) (number heads.Number)) p d
+alignment_inside t p k d = by_class (nat_eq (number t.kind) (number kinds.Number)) p d
   where
     number_is : (k : TokenFault) → fault Number ≡ fault k → Number ≡ k
     number_is k e = cc
@@ -58,7 +58,7 @@ alignment_inside t p k d = by_class (nat_eq (number t.head) (number heads.Number
     by_fit true d = absurd cc
     by_fit false d = subst IsBound (number_is k d) tt
 
-    by_class : (b : Bool) → b || false ≡ true → cond b (cond (contains ALIGNMENTS (decimal t.text) && not (begins 45 t.text)) (Ok (decimal t.text)) (fault Number)) (fault (refusal (number t.head))) ≡ fault k → IsBound k
+    by_class : (b : Bool) → b || false ≡ true → cond b (cond (contains ALIGNMENTS (decimal t.text) && not (begins 45 t.text)) (Ok (decimal t.text)) (fault Number)) (fault (refusal (number t.kind))) ≡ fault k → IsBound k
     by_class true p d = by_fit (contains ALIGNMENTS (decimal t.text) && not (begins 45 t.text)) d
     by_class false p d = absurd cc
 
@@ -172,4 +172,4 @@ grouped_exchanged = with_value (λ all. (fold with_attribute none_kept all)) (st
 
 pub attribute_group_exchanged : Exchanges attribute_group attribute_group_at
 unfolding attribute_group attribute_group_at
-attribute_group_exchanged = seq attributes_exchanged (λ _. seq group_name_exchanged (λ name. seq equals_exchanged (λ _. seq open_brace_exchanged (λ _. seq_closing grouped_exchanged (λ kept. seq close_brace_exchanged (λ _. nothing (group_item name kept))) (λ kept t rest q. refused_class _ heads.CloseBrace refl t rest q)))))
+attribute_group_exchanged = seq attributes_exchanged (λ _. seq group_name_exchanged (λ name. seq equals_exchanged (λ _. seq open_brace_exchanged (λ _. seq_closing grouped_exchanged (λ kept. seq close_brace_exchanged (λ _. nothing (group_item name kept))) (λ kept t rest q. refused_class _ kinds.CloseBrace refl t rest q)))))

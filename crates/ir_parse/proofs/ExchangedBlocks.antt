@@ -4,8 +4,8 @@ use Rattle.std.proofs.lemmas.List.{append-nil}
 use Rattle.std.specs.List.{fold}
 use Rattle.std.specs.Prelude.{codes}
 use Rattle.ir_lex.specs.Tok.{Tok}
-use Rattle.ir_lex.specs.declared.head.Head.TheVariants as heads
-use Rattle.ir_lex.specs.declared.token.Kind.TheVariants as kinds
+use Rattle.ir_lex.specs.declared.token_kind.TokenKind.TheVariants as kinds
+use Rattle.ir_lex.specs.declared.token.TokenForm.TheVariants as forms
 use Rattle.ir_read.specs.Chained.{Chain}
 use Rattle.ir_read.specs.Forms as form
 use Rattle.ir_read.specs.Forms.{Form}
@@ -17,7 +17,7 @@ use Rattle.ir_read.specs.Operands.{named}
 use Rattle.ir_heads.specs.declared.function_heads.Role.TheVariants as roles
 use Rattle.ir_operands.specs.ShapeForms.{any_shape}
 use Rattle.ir_read.specs.declared.raw.Block.{Block}
-use Rattle.ir_read.specs.declared.raw.Line.{Line}
+use Rattle.ir_read.specs.declared.raw.WrittenLine.{WrittenLine}
 use Rattle.ir_read.proofs.Singles.{sample}
 use Rattle.ir_bodies.specs.Blocks.{LABEL, any_label, any_local, keep, lines, block_of, block_behind, block, any_lines, any_block_behind, any_block, at_will, blocks, any_blocks, FURTHER_BLOCKS, INSTRUCTIONS, definition, any_definition}
 use Rattle.ir_bodies.specs.BlocksAt.{BLOCK, label_at, lines_at, block_behind_at, block_at, further_blocks_at, blocks_behind_at, blocks_at, definition_at}
@@ -34,11 +34,11 @@ use Rattle.ir_parse.proofs.ExchangedTerminators.{terminator_exchanged, terminato
 use Rattle.ir_parse.proofs.ExchangedTokens.{plain_class, valued_sample, refused_class}
 use Rattle.ir_parse.proofs.ExchangedWords.{close_brace_exchanged, open_brace_exchanged}
 
-define_word_exchanged : Exchanges (the heads.Define) (the_at heads.Define)
-define_word_exchanged = plain_class heads.Define define_word_rule refl
+define_word_exchanged : Exchanges (the kinds.Define) (the_at kinds.Define)
+define_word_exchanged = plain_class kinds.Define define_word_rule refl
 
 abbrev zero_label : Tok
-zero_label = sample kinds.Label heads.Label (codes "0:")
+zero_label = sample forms.Label kinds.Label (codes "0:")
 
 zero_named : named zero_label ≡ Some zero_label
 unfolding named
@@ -51,14 +51,14 @@ zero_is = ap in_range zero_named
 label_exchanged : Exchanges any_label label_at
 label_exchanged = recast (λ ts a s. any_name LABEL ts a s) (valued_sample LABEL named zero_label zero_label zero_is label_real refl)
 
-abbrev any_line : Form Tok (Option Line)
+abbrev any_line : Form Tok (Option WrittenLine)
 any_line = line any_local any_slots any_shape
 
 first_line : (front : List Tok) → before_named_callee front tt → in_lines front tt
 unfolding in_lines form.◌>>=◌
 first_line front v = ([], front, [], refl, refl, v)
 
-behind_line : (one two : List Tok) (l : Option Line) → any_line one l → in_lines two tt → in_lines (one ++ two) tt
+behind_line : (one two : List Tok) (l : Option WrittenLine) → any_line one l → in_lines two tt → in_lines (one ++ two) tt
 unfolding in_lines form.◌>>=◌
 behind_line one two l s (p, q, ls, e, r, v) = (one ++ p, q, l ∷ ls, ap (λ (ts : List Tok). one ++ ts) e ∙ sym (append_assoc one p q), (one, p, refl, s, r), v)
 
@@ -116,4 +116,4 @@ blocks_exchanged further instructions = block_and instructions (λ first. seq_fr
 
 pub definition_exchanged : (room : ℕ) → Swapping false in_definition any_definition (definition_at room)
 unfolding definition any_definition definition_at in_definition
-definition_exchanged room = seq_to define_word_exchanged (λ _. seq_to (head_exchanged roles.Definition room) (λ h. seq_closing_to definition_attributes_exchanged (λ k. seq_to open_brace_exchanged (λ _. seq_from (blocks_exchanged FURTHER_BLOCKS INSTRUCTIONS) (λ bs. seq close_brace_exchanged (λ _. nothing _)))) (λ k t rest q. refused_class _ heads.OpenBrace refl t rest q)))
+definition_exchanged room = seq_to define_word_exchanged (λ _. seq_to (head_exchanged roles.Definition room) (λ h. seq_closing_to definition_attributes_exchanged (λ k. seq_to open_brace_exchanged (λ _. seq_from (blocks_exchanged FURTHER_BLOCKS INSTRUCTIONS) (λ bs. seq close_brace_exchanged (λ _. nothing _)))) (λ k t rest q. refused_class _ kinds.OpenBrace refl t rest q)))

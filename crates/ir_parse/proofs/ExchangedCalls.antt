@@ -1,10 +1,10 @@
 -- The readers of calls tell a token that is left out in some places where one that it stands for goes on.
 use Rattle.std.proofs.Common.{◌≡◌, ℕ, nat_eq, Bool, true, false, cond, Option, Some, None, List, [], ◌∷◌, Result, Ok, Err, refl, sym, ap, inl, arith}
 use Rattle.std.specs.Prelude.{codes}
-use Rattle.ir_lex.specs.Heads.{number}
+use Rattle.ir_lex.specs.TokenKinds.{number}
 use Rattle.ir_lex.specs.Tok.{Tok}
-use Rattle.ir_lex.specs.declared.head.Head.TheVariants as heads
-use Rattle.ir_lex.specs.declared.head.Head.{Head}
+use Rattle.ir_lex.specs.declared.token_kind.TokenKind.TheVariants as kinds
+use Rattle.ir_lex.specs.declared.token_kind.TokenKind.{TokenKind}
 use Rattle.ir_tree.specs.declared.operand.Reg.TheVariants.{Ptr, Int}
 use Rattle.ir_tree.specs.declared.operand.Reg.{Reg}
 use Rattle.ir_read.proofs.Rules as rules
@@ -45,14 +45,14 @@ use Rattle.ir_parse.proofs.ExchangedTypes.{listed_exchanged as typed_list, Types
 use Rattle.ir_parse.proofs.ExchangedValues.{address_exchanged, operand_exchanged}
 use Rattle.ir_parse.proofs.ExchangedWords.{close_paren_exchanged, comma_exchanged, open_paren_exchanged}
 
-convention_word_exchanged : Exchanges (the heads.CallingConvention) (the_at heads.CallingConvention)
-convention_word_exchanged = plain_class heads.CallingConvention convention_word_rule refl
+convention_word_exchanged : Exchanges (the kinds.CallingConvention) (the_at kinds.CallingConvention)
+convention_word_exchanged = plain_class kinds.CallingConvention convention_word_rule refl
 
-marker_name_exchanged : Exchanges (the heads.LifetimeMarker) (the_at heads.LifetimeMarker)
-marker_name_exchanged = plain_class heads.LifetimeMarker marker_name_rule refl
+marker_name_exchanged : Exchanges (the kinds.LifetimeMarker) (the_at kinds.LifetimeMarker)
+marker_name_exchanged = plain_class kinds.LifetimeMarker marker_name_rule refl
 
-pub call_word_exchanged : Exchanges (the heads.Call) (the_at heads.Call)
-call_word_exchanged = plain_class heads.Call call_word_rule refl
+pub call_word_exchanged : Exchanges (the kinds.Call) (the_at kinds.Call)
+call_word_exchanged = plain_class kinds.Call call_word_rule refl
 
 pub convention_exchanged : Exchanges convention convention_at
 unfolding convention convention_at
@@ -63,7 +63,7 @@ unfolding conventions conventions_at
 conventions_exchanged = seq (star CONVENTIONS refl convention_exchanged (taken convention_rule)) (λ _. nothing tt)
 
 pub written_type_exchanged : Exchanges written_type written_type_at
-written_type_exchanged = type_one REG itself (rules.among_rule tokens type_refusal type_not_number type_not_limit REG itself (word heads.MemoryInteger (codes "i32")) refl int_32_real) refl refl (word heads.MemoryInteger (codes "i32")) refl int_32_real refl
+written_type_exchanged = type_one REG itself (rules.among_rule tokens type_refusal type_not_number type_not_limit REG itself (word kinds.MemoryInteger (codes "i32")) refl int_32_real) refl refl (word kinds.MemoryInteger (codes "i32")) refl int_32_real refl
 
 pub further_type_exchanged : Exchanges further_type further_type_at
 unfolding further_type further_type_at
@@ -79,7 +79,7 @@ some_types_types = types_first written_type_at (type_told itself) _
 
 pub listed_types_exchanged : Exchanges listed_types listed_types_at
 unfolding listed_types listed_types_at
-listed_types_exchanged = typed_list heads.CloseParen refl close_paren_exchanged [] (seq some_types_exchanged (λ ws. seq close_paren_exchanged (λ _. nothing ws))) (types_first some_types_at some_types_types _)
+listed_types_exchanged = typed_list kinds.CloseParen refl close_paren_exchanged [] (seq some_types_exchanged (λ ws. seq close_paren_exchanged (λ _. nothing ws))) (types_first some_types_at some_types_types _)
 
 pub types_exchanged : Exchanges types types_at
 unfolding types types_at
@@ -111,7 +111,7 @@ some_arguments_types = types_first argument_at argument_types _
 
 pub any_arguments_exchanged : Exchanges (any_arguments any_shape) any_arguments_at
 unfolding any_arguments any_arguments_at
-any_arguments_exchanged = typed_list heads.CloseParen refl close_paren_exchanged [] (seq some_arguments_exchanged (λ as'. seq close_paren_exchanged (λ _. nothing as'))) (types_first some_arguments_at some_arguments_types _)
+any_arguments_exchanged = typed_list kinds.CloseParen refl close_paren_exchanged [] (seq some_arguments_exchanged (λ as'. seq close_paren_exchanged (λ _. nothing as'))) (types_first some_arguments_at some_arguments_types _)
 
 same : (n m : ℕ) → nat_eq n m ≡ true → n ≡ m
 same n m h = grind arith
@@ -121,10 +121,10 @@ not_both Ptr e = refl
 not_both (Int v) e = ap (λ (n : ℕ). nat_eq n 16) (same v 8 e)
 
 abbrev i8 : Tok
-i8 = word heads.MemoryInteger (codes "i8")
+i8 = word kinds.MemoryInteger (codes "i8")
 
 abbrev i16 : Tok
-i16 = word heads.MemoryInteger (codes "i16")
+i16 = word kinds.MemoryInteger (codes "i16")
 
 -- an integer of another width
 record Other (w : Tok) : Type 0 where
@@ -163,16 +163,16 @@ unfolding some_of some_of_at each_behind_at
 some_of_exchanged w ws = seq (argument_of_exchanged w) (λ first. seq (each_further_exchanged ws) (λ more. nothing (first ∷ more)))
 
 marker_not_bound : (n : ℕ) → IsBound (marker_refusal n) → ⊥
-marker_not_bound n b = by_test (nat_eq n (number heads.LifetimeMarker)) b
+marker_not_bound n b = by_test (nat_eq n (number kinds.LifetimeMarker)) b
   where
     by_test : (c : Bool) → IsBound (cond c Syntax (refusal n)) → ⊥
     by_test true b = b
     by_test false b = not_bound n b
 
-abbrev unmarked_none : (h : Head) → plain_at POINTER_OPERAND h ≡ true → contains POINTER_OPERAND (number h) ≡ false → (u : Tok) → among tokens (stands_for false h) u ≡ true → (k : TokenFault) × (IsBound k → ⊥) × (is_valued tokens marker_refusal POINTER_OPERAND (operand_of Ptr) u ≡ Err k)
+abbrev unmarked_none : (h : TokenKind) → plain_at POINTER_OPERAND h ≡ true → contains POINTER_OPERAND (number h) ≡ false → (u : Tok) → among tokens (stands_for false h) u ≡ true → (k : TokenFault) × (IsBound k → ⊥) × (is_valued tokens marker_refusal POINTER_OPERAND (operand_of Ptr) u ≡ Err k)
 unmarked_none = none_taken unmarked (is_valued tokens marker_refusal POINTER_OPERAND (operand_of Ptr)) POINTER_OPERAND marker_refusal marker_not_bound (valued_outside marker_refusal POINTER_OPERAND (operand_of Ptr)) (valued_inside marker_refusal POINTER_OPERAND (operand_of Ptr))
 
-null_means : is_valued tokens marker_refusal POINTER_OPERAND (operand_of Ptr) (word heads.Null (codes "null")) ≡ Ok operands.Null
+null_means : is_valued tokens marker_refusal POINTER_OPERAND (operand_of Ptr) (word kinds.Null (codes "null")) ≡ Ok operands.Null
 unfolding is_valued
 null_means = refl
 
@@ -183,19 +183,19 @@ here = form.gives tt
 abbrev unmarked_means : Tok → Result Operand TokenFault
 unmarked_means = is_valued tokens marker_refusal POINTER_OPERAND (operand_of Ptr)
 
-unmarked_class : (h : Head) → contains POINTER_OPERAND (number h) ≡ false → SaysAt here unmarked unmarked_means h (marker_refusal (number h))
+unmarked_class : (h : TokenKind) → contains POINTER_OPERAND (number h) ≡ false → SaysAt here unmarked unmarked_means h (marker_refusal (number h))
 unmarked_class = by_telling (λ h. contains POINTER_OPERAND (number h) ≡ false → SaysAt here unmarked unmarked_means h (marker_refusal (number h)))
-    (λ n. unmarked_none heads.RefusedType refl n)
-    (λ n. inl (λ u i. unmarked_none heads.Target refl n u (a_type u i)))
-    (λ n. (i8, refl, i8_real, unmarked_none heads.RegisterInteger refl n i8 refl))
+    (λ n. unmarked_none kinds.RefusedType refl n)
+    (λ n. inl (λ u i. unmarked_none kinds.Target refl n u (a_type u i)))
+    (λ n. (i8, refl, i8_real, unmarked_none kinds.RegisterInteger refl n i8 refl))
     (λ n. absurd (differ (sym n)))
     (λ n. absurd (differ (sym n)))
     (λ n. (refl, refl))
-    (λ n. unmarked_none heads.Str refl n)
+    (λ n. unmarked_none kinds.Str refl n)
     (λ h t n. elsewhere_at here unmarked unmarked_means h (marker_refusal (number h)) t)
 
 pub unmarked_exchanged : Swapping false here unmarked unmarked_at
-unmarked_exchanged = single_at false here unmarked unmarked_means (λ t a i e. absurd (refuses_angle unmarked_means POINTER_OPERAND marker_refusal (valued_outside marker_refusal POINTER_OPERAND (operand_of Ptr)) refl t a i e)) (λ t a e. e) (word heads.Null (codes "null") ∷ [], operands.Null, null_means, (null_real, tt))
+unmarked_exchanged = single_at false here unmarked unmarked_means (λ t a i e. absurd (refuses_angle unmarked_means POINTER_OPERAND marker_refusal (valued_outside marker_refusal POINTER_OPERAND (operand_of Ptr)) refl t a i e)) (λ t a e. e) (word kinds.Null (codes "null") ∷ [], operands.Null, null_means, (null_real, tt))
     (says_at here unmarked unmarked_means POINTER_OPERAND marker_refusal marker_not_bound (valued_outside marker_refusal POINTER_OPERAND (operand_of Ptr)) (valued_inside marker_refusal POINTER_OPERAND (operand_of Ptr)) unmarked_class)
 
 pub called_value_exchanged : Exchanges (called_value any_shape) called_value_at
@@ -259,12 +259,12 @@ no_result = Ok None
 
 -- ---- a lifetime marker against the syntax: as the callee of a void call that has a name
 
-void_is : (ts : List Tok) → result ts None → the heads.Void ts tt
+void_is : (ts : List Tok) → result ts None → the kinds.Void ts tt
 unfolding is_among is_class
 void_is [] s = absurd s
-void_is (t ∷ []) s = by_tests (among tokens RESULT t) (nat_eq (number t.head) (number heads.Void)) s
+void_is (t ∷ []) s = by_tests (among tokens RESULT t) (nat_eq (number t.kind) (number kinds.Void)) s
   where
-    by_tests : (b c : Bool) → cond b (Ok (cond c None (Some (reg_of t)))) (Err (type_refusal (number t.head))) ≡ no_result → cond c (fine tt) (failed (refusal (number t.head))) ≡ fine tt
+    by_tests : (b c : Bool) → cond b (Ok (cond c None (Some (reg_of t)))) (Err (type_refusal (number t.kind))) ≡ no_result → cond c (fine tt) (failed (refusal (number t.kind))) ≡ fine tt
     by_tests b true s = refl
     by_tests true false s = absurd cc
     by_tests false false s = absurd cc

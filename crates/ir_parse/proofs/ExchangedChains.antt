@@ -1,10 +1,10 @@
 -- Pieces one behind another tell a token that is left out in some places as such exactly where one that it stands for goes on.
 use Rattle.std.proofs.Common.{◌≡◌, ◌≢◌, ℕ, nat_eq, ◌||◌, zero, suc, ◌<◌, Bool, true, false, cond, ◌&&◌, not, List, [], ◌∷◌, ◌++◌, length, Result, Ok, Err, refl, sym, ap, subst, ◌∙◌, append_assoc, arith, inl, inr}
 use Rattle.std.proofs.lemmas.List.{append-nil, length-append}
-use Rattle.ir_lex.specs.Heads.{number}
+use Rattle.ir_lex.specs.TokenKinds.{number}
 use Rattle.ir_lex.specs.Tok.{Tok}
-use Rattle.ir_lex.specs.declared.head.Head.TheVariants as heads
-use Rattle.ir_lex.specs.declared.head.Head.{Head}
+use Rattle.ir_lex.specs.declared.token_kind.TokenKind.TheVariants as kinds
+use Rattle.ir_lex.specs.declared.token_kind.TokenKind.{TokenKind}
 use Rattle.ir_read.proofs.Composed.{all_real, cut_is, reads, reads_is, wrong, wrong_is}
 use Rattle.ir_read.specs.Alphabet.{AllReal, among, contains}
 use Rattle.ir_read.specs.Chained.{Chain, stops_here, chain_within, chain_at}
@@ -28,7 +28,7 @@ differ : false ≡ true → ⊥
 differ e = cc
 
 module _ {S A : Type 0} (final : S → Bool) (bs : S → List ℕ) (wide : S → Form Tok (A × S)) (f : S → Reader Tok (A × S)) {loose : Bool} {one_place : Place} (place : S → Place) (within_first : (s : S) (front : List Tok) → one_place front tt → place s front tt) (within_further : (s : S) (one two : List Tok) (x : A × S) → wide s one x → place x.1 two tt → place s (one ++ two) tt) (laws : (s : S) → Swaps false loose one_place (wide s) (f s)) (some : (s : S) (x : A × S) → wide s [] x → ⊥)
-    (finish : (s : S) → (ts : List Tok) × (as' : List A) × Chain final wide s ts as' × AllReal tokens ts) (fairly : (s : S) → final s ≡ true → fair (bs s) ≡ true) (steady : loose ≡ true → (s : S) → (final s ≡ true) × (disjoint (number heads.Number ∷ OPEN_BRACE) (bs s) ≡ true)) where
+    (finish : (s : S) → (ts : List Tok) × (as' : List A) × Chain final wide s ts as' × AllReal tokens ts) (fairly : (s : S) → final s ≡ true → fair (bs s) ≡ true) (steady : loose ≡ true → (s : S) → (final s ≡ true) × (disjoint (number kinds.Number ∷ OPEN_BRACE) (bs s) ≡ true)) where
   abbrev begins : S → Tok → Bool
   begins s = among tokens (bs s)
 
@@ -235,7 +235,7 @@ module _ {S A : Type 0} (final : S → Bool) (bs : S → List ℕ) (wide : S →
 
   -- whether a reading stops there is the same
   abbrev Keeps : S → List Tok → Tok → List Tok → Type 0
-  Keeps s front t rest = (u : Tok) → among tokens (stands_for (is_angled front) t.head) u ≡ true → (rest' : List Tok) → stop s (front ++ u ∷ rest') ≡ stop s (front ++ t ∷ rest)
+  Keeps s front t rest = (u : Tok) → among tokens (stands_for (is_angled front) t.kind) u ≡ true → (rest' : List Tok) → stop s (front ++ u ∷ rest') ≡ stop s (front ++ t ∷ rest)
 
   no_stop : (s : S) (t : Tok) (ts : List Tok) → final s ≡ false → stop s (t ∷ ts) ≡ false
   no_stop s t ts e = ap (λ (b : Bool). b && not (begins s t)) e
@@ -246,11 +246,11 @@ module _ {S A : Type 0} (final : S → Bool) (bs : S → List ℕ) (wide : S →
   kept : (s : S) (t : Tok) (rest : List Tok) → Keeps s [] t rest
   kept s t rest = by_final (final s) refl
     where
-      by_fair : fair_at (bs s) t.head ≡ true → Keeps s [] t rest
-      by_fair e u i rest' = begun_stop s u rest' (contains (bs s) (number t.head)) (alike (bs s) t.head e u i)
+      by_fair : fair_at (bs s) t.kind ≡ true → Keeps s [] t rest
+      by_fair e u i rest' = begun_stop s u rest' (contains (bs s) (number t.kind)) (alike (bs s) t.kind e u i)
 
       by_final : (b : Bool) → final s ≡ b → Keeps s [] t rest
-      by_final true q = by_fair (fair_of (bs s) (fairly s q) t.head)
+      by_final true q = by_fair (fair_of (bs s) (fairly s q) t.kind)
       by_final false q = λ u i rest'. no_stop s u rest' q ∙ sym (no_stop s t rest q)
 
   module _ (n : ℕ) (s : S) where
@@ -258,77 +258,77 @@ module _ {S A : Type 0} (final : S → Bool) (bs : S → List ℕ) (wide : S →
     here_at = at_most (suc n) s
 
     -- behind a first piece that stays before it
-    joined_too : (one two : List Tok) (x : A × S) → wide s one x → (angled : Bool) (h : Head) (o : Result (List A) TokenFault)
+    joined_too : (one two : List Tok) (x : A × S) → wide s one x → (angled : Bool) (h : TokenKind) (o : Result (List A) TokenFault)
         → ((u : Tok) → among tokens (stands_for angled h) u ≡ true → (rest : List Tok) → here_at ((one ++ two) ++ u ∷ rest) ≡ in_front x.0 (at_most n x.1 (two ++ u ∷ rest)))
         → OutcomeAt false (place x.1) (of_all x.1) (at_most n x.1) angled two h o → OutcomeAt false (place s) (of_all s) here_at angled (one ++ two) h (joined x.0 o)
     joined_too one two x q angled h (Ok m) whole p = ok_too false false (place x.1) (place s) (of_all x.1) (of_all s) (at_most n x.1) here_at angled two (one ++ two) h (λ e. e) m (x.0 ∷ m) (λ u i st rest. whole u i rest ∙ ap (in_front x.0) (st rest)) (λ u g. goes_second s one two x q u g) p
     joined_too one two x q angled h (Err k) whole p = err_too false false (place x.1) (place s) (of_all x.1) (of_all s) (at_most n x.1) here_at angled two (one ++ two) h k (within_further s one two x q) (λ u i st rest. let r = st rest in (r.0, r.1, whole u i rest ∙ ap (in_front x.0) r.2)) (λ u g. goes_second s one two x q u g) p
 
     module _ (front : List Tok) (t : Tok) (rest : List Tok) (here : stop s (front ++ t ∷ rest) ≡ false) where
-      stuck_too : Keeps s front t rest → (u : Tok) → among tokens (stands_for (is_angled front) t.head) u ≡ true → Stuck (f s) front u → Stuck here_at front u
+      stuck_too : Keeps s front t rest → (u : Tok) → among tokens (stands_for (is_angled front) t.kind) u ≡ true → Stuck (f s) front u → Stuck here_at front u
       stuck_too keeps u i st rest' = let r = st rest' in (r.0, r.1, stop_not n s (front ++ u ∷ rest') (keeps u i rest' ∙ here) ∙ ap (λ (y : Result ((A × S) × List Tok) Fault). follow y (further n)) r.2)
 
-      piece_err : Keeps s front t rest → (k : TokenFault) → f s (front ++ t ∷ rest) ≡ fault_at k (t ∷ rest) → Outcome false (place s) (of_all s) here_at front t.head (Err k)
-      piece_err keeps k e = err_too false false one_place (place s) (wide s) (of_all s) (f s) here_at (is_angled front) front front t.head k (within_first s front) (λ u i st. stuck_too keeps u i st) (λ u g. goes_first s front u g) ((laws s).swap front t rest (Err k) e)
+      piece_err : Keeps s front t rest → (k : TokenFault) → f s (front ++ t ∷ rest) ≡ fault_at k (t ∷ rest) → Outcome false (place s) (of_all s) here_at front t.kind (Err k)
+      piece_err keeps k e = err_too false false one_place (place s) (wide s) (of_all s) (f s) here_at (is_angled front) front front t.kind k (within_first s front) (λ u i st. stuck_too keeps u i st) (λ u g. goes_first s front u g) ((laws s).swap front t rest (Err k) e)
 
       -- at a number behind `<` the rest of the chain stops, where a piece ends there
-      stops_after : (next : S) (o : Result (List A) TokenFault) → loose ≡ true → nat_eq (number t.head) (number heads.Number) ≡ true → at_most n next (t ∷ rest) ≡ ends o (t ∷ rest) → OutcomeAt false (place next) (of_all next) (at_most n next) true [] t.head o
-      stops_after next o e q d = by_end o (sym (stop_gives n next (t ∷ rest) (stop_at t rest (apart (number heads.Number ∷ []) (bs next) (first_apart (steady e next).1) (number t.head) (ap (λ (b : Bool). b || false) q)))) ∙ d)
+      stops_after : (next : S) (o : Result (List A) TokenFault) → loose ≡ true → nat_eq (number t.kind) (number kinds.Number) ≡ true → at_most n next (t ∷ rest) ≡ ends o (t ∷ rest) → OutcomeAt false (place next) (of_all next) (at_most n next) true [] t.kind o
+      stops_after next o e q d = by_end o (sym (stop_gives n next (t ∷ rest) (stop_at t rest (apart (number kinds.Number ∷ []) (bs next) (first_apart (steady e next).1) (number t.kind) (ap (λ (b : Bool). b || false) q)))) ∙ d)
         where
-          first_apart : disjoint (number heads.Number ∷ OPEN_BRACE) (bs next) ≡ true → disjoint (number heads.Number ∷ []) (bs next) ≡ true
+          first_apart : disjoint (number kinds.Number ∷ OPEN_BRACE) (bs next) ≡ true → disjoint (number kinds.Number ∷ []) (bs next) ≡ true
           first_apart e = ap (λ (b : Bool). b && true) (and_parts _ _ e).0
 
-          stop_at : (u : Tok) (us : List Tok) → contains (bs next) (number u.head) ≡ false → stop next (u ∷ us) ≡ true
-          stop_at u us e' = ap (λ (b : Bool). b && not (contains (bs next) (number u.head))) (steady e next).0 ∙ ap not e'
+          stop_at : (u : Tok) (us : List Tok) → contains (bs next) (number u.kind) ≡ false → stop next (u ∷ us) ≡ true
+          stop_at u us e' = ap (λ (b : Bool). b && not (contains (bs next) (number u.kind))) (steady e next).0 ∙ ap not e'
 
-          brace : (u : Tok) → among tokens (stands_for true t.head) u ≡ true → contains (bs next) (number u.head) ≡ false
-          brace u i = apart (number heads.Number ∷ OPEN_BRACE) (bs next) (steady e next).1 (number u.head) (by_head t.head q i)
+          brace : (u : Tok) → among tokens (stands_for true t.kind) u ≡ true → contains (bs next) (number u.kind) ≡ false
+          brace u i = apart (number kinds.Number ∷ OPEN_BRACE) (bs next) (steady e next).1 (number u.kind) (by_head t.kind q i)
             where
-              by_head : (h : Head) → nat_eq (number h) (number heads.Number) ≡ true → contains (stands_for true h) (number u.head) ≡ true → contains (number heads.Number ∷ OPEN_BRACE) (number u.head) ≡ true
-              by_head heads.Number q i = within_of OPEN_BRACE (number heads.Number ∷ OPEN_BRACE) refl (number u.head) i
+              by_head : (h : TokenKind) → nat_eq (number h) (number kinds.Number) ≡ true → contains (stands_for true h) (number u.kind) ≡ true → contains (number kinds.Number ∷ OPEN_BRACE) (number u.kind) ≡ true
+              by_head kinds.Number q i = within_of OPEN_BRACE (number kinds.Number ∷ OPEN_BRACE) refl (number u.kind) i
               by_head h q i = absurd cc
 
-          by_end : (o : Result (List A) TokenFault) → reads [] (t ∷ rest) ≡ ends o (t ∷ rest) → OutcomeAt false (place next) (of_all next) (at_most n next) true [] t.head o
+          by_end : (o : Result (List A) TokenFault) → reads [] (t ∷ rest) ≡ ends o (t ∷ rest) → OutcomeAt false (place next) (of_all next) (at_most n next) true [] t.kind o
           by_end (Ok m) d = inl (λ u i rest'. stop_gives n next (u ∷ rest') (stop_at u rest' (brace u i)) ∙ ap (λ (z : List A). reads z (u ∷ rest')) (reads_is [] m (t ∷ rest) (t ∷ rest) d).0)
           by_end (Err k) d = absurd cc
 
-      piece_ok : Keeps s front t rest → (x : A × S) (mid : List Tok) (o : Result (List A) TokenFault) (c : Cut s front (t ∷ rest) x mid) → at_most n x.1 (c.two ++ t ∷ rest) ≡ ends o (t ∷ rest) → Outcome false (place x.1) (of_all x.1) (at_most n x.1) c.two t.head o → Outcome false (place s) (of_all s) here_at front t.head (joined x.0 o)
-      piece_ok keeps x mid o c d p = subst (λ (y : List Tok). Outcome false (place s) (of_all s) here_at y t.head (joined x.0 o)) (sym c.front_is) (by_two c.two (λ u i rest'. ap (λ (y : List Tok). stop s (y ++ u ∷ rest')) (sym c.front_is) ∙ keeps u (subst (λ (y : List Tok). among tokens (stands_for (is_angled y) t.head) u ≡ true) (sym c.front_is) i) rest' ∙ here) c.piece d p)
+      piece_ok : Keeps s front t rest → (x : A × S) (mid : List Tok) (o : Result (List A) TokenFault) (c : Cut s front (t ∷ rest) x mid) → at_most n x.1 (c.two ++ t ∷ rest) ≡ ends o (t ∷ rest) → Outcome false (place x.1) (of_all x.1) (at_most n x.1) c.two t.kind o → Outcome false (place s) (of_all s) here_at front t.kind (joined x.0 o)
+      piece_ok keeps x mid o c d p = subst (λ (y : List Tok). Outcome false (place s) (of_all s) here_at y t.kind (joined x.0 o)) (sym c.front_is) (by_two c.two (λ u i rest'. ap (λ (y : List Tok). stop s (y ++ u ∷ rest')) (sym c.front_is) ∙ keeps u (subst (λ (y : List Tok). among tokens (stands_for (is_angled y) t.kind) u ≡ true) (sym c.front_is) i) rest' ∙ here) c.piece d p)
         where
-          by_angle : ((u : Tok) → among tokens (stands_for (is_angled (c.one ++ [])) t.head) u ≡ true → (rest' : List Tok) → stop s ((c.one ++ []) ++ u ∷ rest') ≡ false) → f s (c.one ++ t ∷ rest) ≡ reads x (t ∷ rest) → at_most n x.1 (t ∷ rest) ≡ ends o (t ∷ rest) → OutcomeAt false (place x.1) (of_all x.1) (at_most n x.1) false [] t.head o → (angled : Bool) → is_angled c.one ≡ angled → ((u : Tok) → among tokens (stands_for angled t.head) u ≡ true → Stays (f s) c.one x u) → OutcomeAt false (place s) (of_all s) here_at (is_angled (c.one ++ [])) (c.one ++ []) t.head (joined x.0 o)
-          by_angle on e d p angled q stays = subst (λ (b : Bool). OutcomeAt false (place s) (of_all s) here_at b (c.one ++ []) t.head (joined x.0 o)) (sym (ap is_angled (append-nil c.one) ∙ q)) (joined_too c.one [] x c.spelled angled t.head o (λ u i rest'. goes_whole n s c.one [] u rest' x (on u (subst (λ (b : Bool). among tokens (stands_for b t.head) u ≡ true) (sym (ap is_angled (append-nil c.one) ∙ q)) i) rest') (stays u i rest')) (by_bool angled q))
+          by_angle : ((u : Tok) → among tokens (stands_for (is_angled (c.one ++ [])) t.kind) u ≡ true → (rest' : List Tok) → stop s ((c.one ++ []) ++ u ∷ rest') ≡ false) → f s (c.one ++ t ∷ rest) ≡ reads x (t ∷ rest) → at_most n x.1 (t ∷ rest) ≡ ends o (t ∷ rest) → OutcomeAt false (place x.1) (of_all x.1) (at_most n x.1) false [] t.kind o → (angled : Bool) → is_angled c.one ≡ angled → ((u : Tok) → among tokens (stands_for angled t.kind) u ≡ true → Stays (f s) c.one x u) → OutcomeAt false (place s) (of_all s) here_at (is_angled (c.one ++ [])) (c.one ++ []) t.kind (joined x.0 o)
+          by_angle on e d p angled q stays = subst (λ (b : Bool). OutcomeAt false (place s) (of_all s) here_at b (c.one ++ []) t.kind (joined x.0 o)) (sym (ap is_angled (append-nil c.one) ∙ q)) (joined_too c.one [] x c.spelled angled t.kind o (λ u i rest'. goes_whole n s c.one [] u rest' x (on u (subst (λ (b : Bool). among tokens (stands_for b t.kind) u ≡ true) (sym (ap is_angled (append-nil c.one) ∙ q)) i) rest') (stays u i rest')) (by_bool angled q))
             where
-              by_number : (b : Bool) → nat_eq (number t.head) (number heads.Number) ≡ b → loose ≡ true → OutcomeAt false (place x.1) (of_all x.1) (at_most n x.1) true [] t.head o
+              by_number : (b : Bool) → nat_eq (number t.kind) (number kinds.Number) ≡ b → loose ≡ true → OutcomeAt false (place x.1) (of_all x.1) (at_most n x.1) true [] t.kind o
               by_number true z l = stops_after x.1 o l z d
-              by_number false z l = same_at false (place x.1) (of_all x.1) (at_most n x.1) [] t.head o z p
+              by_number false z l = same_at false (place x.1) (of_all x.1) (at_most n x.1) [] t.kind o z p
 
-              by_bool : (angled : Bool) → is_angled c.one ≡ angled → OutcomeAt false (place x.1) (of_all x.1) (at_most n x.1) angled [] t.head o
+              by_bool : (angled : Bool) → is_angled c.one ≡ angled → OutcomeAt false (place x.1) (of_all x.1) (at_most n x.1) angled [] t.kind o
               by_bool false q = p
-              by_bool true q = by_number (nat_eq (number t.head) (number heads.Number)) refl ((laws s).closed c.one (t ∷ rest) x e q)
+              by_bool true q = by_number (nat_eq (number t.kind) (number kinds.Number)) refl ((laws s).closed c.one (t ∷ rest) x e q)
 
-          by_two : (two : List Tok) → ((u : Tok) → among tokens (stands_for (is_angled (c.one ++ two)) t.head) u ≡ true → (rest' : List Tok) → stop s ((c.one ++ two) ++ u ∷ rest') ≡ false) → f s (c.one ++ (two ++ t ∷ rest)) ≡ reads x (two ++ t ∷ rest) → at_most n x.1 (two ++ t ∷ rest) ≡ ends o (t ∷ rest) → Outcome false (place x.1) (of_all x.1) (at_most n x.1) two t.head o → OutcomeAt false (place s) (of_all s) here_at (is_angled (c.one ++ two)) (c.one ++ two) t.head (joined x.0 o)
-          by_two (v ∷ mid') on e d p = joined_too c.one (v ∷ mid') x c.spelled (is_angled (c.one ++ v ∷ mid')) t.head o (λ u i rest'. goes_whole n s c.one (v ∷ mid') u rest' x (on u i rest') ((laws s).local c.one v (mid' ++ t ∷ rest) (mid' ++ u ∷ rest') (Ok x) e)) (subst (λ (b : Bool). OutcomeAt false (place x.1) (of_all x.1) (at_most n x.1) b (v ∷ mid') t.head o) (angled_behind c.one v mid') p)
+          by_two : (two : List Tok) → ((u : Tok) → among tokens (stands_for (is_angled (c.one ++ two)) t.kind) u ≡ true → (rest' : List Tok) → stop s ((c.one ++ two) ++ u ∷ rest') ≡ false) → f s (c.one ++ (two ++ t ∷ rest)) ≡ reads x (two ++ t ∷ rest) → at_most n x.1 (two ++ t ∷ rest) ≡ ends o (t ∷ rest) → Outcome false (place x.1) (of_all x.1) (at_most n x.1) two t.kind o → OutcomeAt false (place s) (of_all s) here_at (is_angled (c.one ++ two)) (c.one ++ two) t.kind (joined x.0 o)
+          by_two (v ∷ mid') on e d p = joined_too c.one (v ∷ mid') x c.spelled (is_angled (c.one ++ v ∷ mid')) t.kind o (λ u i rest'. goes_whole n s c.one (v ∷ mid') u rest' x (on u i rest') ((laws s).local c.one v (mid' ++ t ∷ rest) (mid' ++ u ∷ rest') (Ok x) e)) (subst (λ (b : Bool). OutcomeAt false (place x.1) (of_all x.1) (at_most n x.1) b (v ∷ mid') t.kind o) (angled_behind c.one v mid') p)
           by_two [] on e d p = elim ((laws s).swap c.one t rest (Ok x) e) [ inl stays ↦ by_angle on e d p (is_angled c.one) refl stays | inr w ↦ absurd (differ w.0) ]
 
-  by_keeps : (n : ℕ) (s : S) (front : List Tok) (t : Tok) (rest : List Tok) (o : Result (List A) TokenFault) → ((next : S) (two : List Tok) (o' : Result (List A) TokenFault) → length two < length front → at_most n next (two ++ t ∷ rest) ≡ ends o' (t ∷ rest) → Outcome false (place next) (of_all next) (at_most n next) two t.head o')
-      → Keeps s front t rest → at_most (suc n) s (front ++ t ∷ rest) ≡ ends o (t ∷ rest) → Outcome false (place s) (of_all s) (at_most (suc n) s) front t.head o
-  by_keeps n s front t rest o again keeps d = either_way (Outcome false (place s) (of_all s) (at_most (suc n) s) front t.head o) n s (front ++ t ∷ rest) (ends o (t ∷ rest)) d (λ e h. stopped e h) (λ e h. by_piece e (f s (front ++ t ∷ rest)) refl h)
+  by_keeps : (n : ℕ) (s : S) (front : List Tok) (t : Tok) (rest : List Tok) (o : Result (List A) TokenFault) → ((next : S) (two : List Tok) (o' : Result (List A) TokenFault) → length two < length front → at_most n next (two ++ t ∷ rest) ≡ ends o' (t ∷ rest) → Outcome false (place next) (of_all next) (at_most n next) two t.kind o')
+      → Keeps s front t rest → at_most (suc n) s (front ++ t ∷ rest) ≡ ends o (t ∷ rest) → Outcome false (place s) (of_all s) (at_most (suc n) s) front t.kind o
+  by_keeps n s front t rest o again keeps d = either_way (Outcome false (place s) (of_all s) (at_most (suc n) s) front t.kind o) n s (front ++ t ∷ rest) (ends o (t ∷ rest)) d (λ e h. stopped e h) (λ e h. by_piece e (f s (front ++ t ∷ rest)) refl h)
     where
-      stopped : stop s (front ++ t ∷ rest) ≡ true → reads [] (front ++ t ∷ rest) ≡ ends o (t ∷ rest) → Outcome false (place s) (of_all s) (at_most (suc n) s) front t.head o
+      stopped : stop s (front ++ t ∷ rest) ≡ true → reads [] (front ++ t ∷ rest) ≡ ends o (t ∷ rest) → Outcome false (place s) (of_all s) (at_most (suc n) s) front t.kind o
       stopped e h =
           let z = nothing_read front t rest o h in
-          subst (λ (y : Result (List A) TokenFault). Outcome false (place s) (of_all s) (at_most (suc n) s) front t.head y) (sym z.1) (inl (λ u i rest'. stop_gives (suc n) s (front ++ u ∷ rest') (keeps u i rest' ∙ e) ∙ ap (λ (y : List Tok). reads [] (y ++ u ∷ rest')) z.0))
+          subst (λ (y : Result (List A) TokenFault). Outcome false (place s) (of_all s) (at_most (suc n) s) front t.kind y) (sym z.1) (inl (λ u i rest'. stop_gives (suc n) s (front ++ u ∷ rest') (keeps u i rest' ∙ e) ∙ ap (λ (y : List Tok). reads [] (y ++ u ∷ rest')) z.0))
 
-      by_piece : stop s (front ++ t ∷ rest) ≡ false → (r : Result ((A × S) × List Tok) Fault) → f s (front ++ t ∷ rest) ≡ r → follow r (further n) ≡ ends o (t ∷ rest) → Outcome false (place s) (of_all s) (at_most (suc n) s) front t.head o
+      by_piece : stop s (front ++ t ∷ rest) ≡ false → (r : Result ((A × S) × List Tok) Fault) → f s (front ++ t ∷ rest) ≡ r → follow r (further n) ≡ ends o (t ∷ rest) → Outcome false (place s) (of_all s) (at_most (suc n) s) front t.kind o
       by_piece e (Err k) i h =
           let w = err_ends k o (t ∷ rest) h in
-          subst (λ (y : Result (List A) TokenFault). Outcome false (place s) (of_all s) (at_most (suc n) s) front t.head y) (sym w.1) (piece_err n s front t rest e keeps w.0 (i ∙ ap wrong w.2))
+          subst (λ (y : Result (List A) TokenFault). Outcome false (place s) (of_all s) (at_most (suc n) s) front t.kind y) (sym w.1) (piece_err n s front t rest e keeps w.0 (i ∙ ap wrong w.2))
       by_piece e (Ok x) i h =
           let w = without x.0.0 (at_most n x.0.1 x.1) o (t ∷ rest) h in
           let c = cut_at n s front (t ∷ rest) x.0 x.1 w.0 i w.1 in
-          subst (λ (y : Result (List A) TokenFault). Outcome false (place s) (of_all s) (at_most (suc n) s) front t.head y) (sym w.2) (piece_ok n s front t rest e keeps x.0 x.1 w.0 c (ap (at_most n x.0.1) (sym c.mid_is) ∙ w.1) (again x.0.1 c.two w.0 c.less (ap (at_most n x.0.1) (sym c.mid_is) ∙ w.1)))
+          subst (λ (y : Result (List A) TokenFault). Outcome false (place s) (of_all s) (at_most (suc n) s) front t.kind y) (sym w.2) (piece_ok n s front t rest e keeps x.0 x.1 w.0 c (ap (at_most n x.0.1) (sym c.mid_is) ∙ w.1) (again x.0.1 c.two w.0 c.less (ap (at_most n x.0.1) (sym c.mid_is) ∙ w.1)))
 
-  swap_chain : (n : ℕ) (s : S) (front : List Tok) (t : Tok) (rest : List Tok) (o : Result (List A) TokenFault) → length front < n → at_most n s (front ++ t ∷ rest) ≡ ends o (t ∷ rest) → Outcome false (place s) (of_all s) (at_most n s) front t.head o
+  swap_chain : (n : ℕ) (s : S) (front : List Tok) (t : Tok) (rest : List Tok) (o : Result (List A) TokenFault) → length front < n → at_most n s (front ++ t ∷ rest) ≡ ends o (t ∷ rest) → Outcome false (place s) (of_all s) (at_most n s) front t.kind o
   swap_chain zero s front t rest o lt d = absurd (omega (arith, lt))
   swap_chain (suc n) s [] t rest o lt d = by_keeps n s [] t rest o (λ next two o' l i. absurd (omega (arith, l))) (kept s t rest) d
   swap_chain (suc n) s (v ∷ front) t rest o lt d = by_keeps n s (v ∷ front) t rest o (λ next two o' l i. swap_chain n next two t rest o' (omega (arith, lt, l)) i) (λ u i rest'. refl) d
@@ -369,7 +369,7 @@ module _ {S A : Type 0} (final : S → Bool) (bs : S → List ℕ) (wide : S →
     local = λ front t rest rest' o d. enough_for front t rest' o (local_chain (suc (length front)) s front t rest rest' o (omega arith) (all_is front t rest o d));
     some = finish s;
     closed = λ front rest as' d q. closed_chain (suc (length (front ++ rest))) s (front ++ rest) front rest as' d refl q;
-    swap = λ front t rest o d. swap_all front t.head o (swap_chain (suc (length front)) s front t rest o (omega arith) (all_is front t rest o d));
+    swap = λ front t rest o d. swap_all front t.kind o (swap_chain (suc (length front)) s front t rest o (omega arith) (all_is front t rest o d));
   }
     where
       enough_for : (front : List Tok) (u : Tok) (rest : List Tok) (o : Result (List A) TokenFault) → at_most (suc (length front)) s (front ++ u ∷ rest) ≡ ends o (u ∷ rest) → chain_at final begins f s (front ++ u ∷ rest) ≡ ends o (u ∷ rest)
@@ -378,7 +378,7 @@ module _ {S A : Type 0} (final : S → Bool) (bs : S → List ℕ) (wide : S →
       all_is : (front : List Tok) (u : Tok) (rest : List Tok) (o : Result (List A) TokenFault) → chain_at final begins f s (front ++ u ∷ rest) ≡ ends o (u ∷ rest) → at_most (suc (length front)) s (front ++ u ∷ rest) ≡ ends o (u ∷ rest)
       all_is front u rest o d = enough (suc (length (front ++ u ∷ rest))) (suc (length front)) s front (u ∷ rest) o (omega (arith, length-append front (u ∷ rest))) (omega arith) d
 
-      swap_all : (front : List Tok) (h : Head) (o : Result (List A) TokenFault) → Outcome false (place s) (of_all s) (at_most (suc (length front)) s) front h o → Outcome false (place s) (of_all s) (chain_at final begins f s) front h o
+      swap_all : (front : List Tok) (h : TokenKind) (o : Result (List A) TokenFault) → Outcome false (place s) (of_all s) (at_most (suc (length front)) s) front h o → Outcome false (place s) (of_all s) (chain_at final begins f s) front h o
       swap_all front h (Ok m) p = ok_too false false (place s) (place s) (of_all s) (of_all s) (at_most (suc (length front)) s) (chain_at final begins f s) (is_angled front) front front h (λ e. e) m m (λ u i st rest. enough_for front u rest (Ok m) (st rest)) (λ u g. g) p
       swap_all front h (Err k) p = err_too false false (place s) (place s) (of_all s) (of_all s) (at_most (suc (length front)) s) (chain_at final begins f s) (is_angled front) front front h k (λ v. v) (λ u i st rest. let r = st rest in (r.0, r.1, enough_for front u rest (Err r.0) r.2)) (λ u g. g) p
 

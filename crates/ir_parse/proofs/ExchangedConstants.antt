@@ -2,7 +2,7 @@
 use Rattle.std.proofs.Common.{◌≡◌, Option, Ok, refl}
 use Rattle.std.specs.Prelude.{codes}
 use Rattle.ir_lex.specs.Tok.{Tok}
-use Rattle.ir_lex.specs.declared.head.Head.TheVariants as heads
+use Rattle.ir_lex.specs.declared.token_kind.TokenKind.TheVariants as kinds
 use Rattle.ir_tree.specs.declared.operand.Reg.{Reg}
 use Rattle.ir_read.specs.Rules.{is_valued}
 use Rattle.ir_read.specs.Classes.{tokens, refusal}
@@ -18,7 +18,7 @@ use Rattle.ir_parse.proofs.ExchangedTokens.{valued_sample}
 use Rattle.ir_parse.proofs.ExchangedValues.{address_exchanged}
 
 abbrev null_token : Tok
-null_token = word heads.Null (codes "null")
+null_token = word kinds.Null (codes "null")
 
 null_is : (scalar : Option Reg) → is_valued tokens refusal CONSTANTS (constant_of scalar) null_token ≡ Ok (plain operands.Null)
 unfolding is_valued

@@ -1,10 +1,10 @@
 -- The readers of heads of functions tell a token that is left out in some places where one that it stands for goes on.
 use Rattle.std.proofs.Common.{◌≡◌, ℕ, Bool, true, false, cond, List, [], ◌∷◌, ◌++◌, Result, refl}
 use Rattle.std.specs.Prelude.{codes}
-use Rattle.ir_lex.specs.Heads.{number}
+use Rattle.ir_lex.specs.TokenKinds.{number}
 use Rattle.ir_lex.specs.Tok.{Tok}
-use Rattle.ir_lex.specs.declared.head.Head.TheVariants as heads
-use Rattle.ir_lex.specs.declared.token.Kind.TheVariants as kinds
+use Rattle.ir_lex.specs.declared.token_kind.TokenKind.TheVariants as kinds
+use Rattle.ir_lex.specs.declared.token.TokenForm.TheVariants as forms
 use Rattle.ir_tree.specs.declared.function.Linkage.{Linkage}
 use Rattle.ir_read.specs.Alphabet.{among}
 use Rattle.ir_read.specs.Chained.{Chain, chain_at}
@@ -32,8 +32,8 @@ use Rattle.ir_parse.proofs.ExchangedTypes.{Types, listed_exchanged as typed_list
 use Rattle.ir_parse.proofs.ExchangedWords.{close_paren_exchanged, comma_exchanged, open_paren_exchanged}
 
 pub linkage_exchanged : (role : Role) → Exchanges (one_of (linkages_of role) linkage_word) (one_of_at (linkages_of role) linkage_word)
-linkage_exchanged roles.Declaration = one_sample (linkages_of roles.Declaration) linkage_word (word heads.External (codes "external")) refl external_real refl
-linkage_exchanged roles.Definition = one_sample (linkages_of roles.Definition) linkage_word (word heads.External (codes "external")) refl external_real refl
+linkage_exchanged roles.Declaration = one_sample (linkages_of roles.Declaration) linkage_word (word kinds.External (codes "external")) refl external_real refl
+linkage_exchanged roles.Definition = one_sample (linkages_of roles.Definition) linkage_word (word kinds.External (codes "external")) refl external_real refl
 
 pub linking_exchanged : (role : Role) → Exchanges (linking role) (linking_at role)
 unfolding linking linking_at
@@ -41,7 +41,7 @@ linking_exchanged role = seq (linkage_exchanged role) (λ _. nothing _)
 
 pub qualifier_exchanged : Exchanges (form.either (one_of QUALIFIERS nothing_of) parameter_attribute) qualifier_at
 unfolding qualifier_at
-qualifier_exchanged = alt QUALIFIERS refl (one_sample QUALIFIERS nothing_of (word heads.Visibility (codes "hidden")) refl hidden_real refl) parameter_attribute_exchanged
+qualifier_exchanged = alt QUALIFIERS refl (one_sample QUALIFIERS nothing_of (word kinds.Visibility (codes "hidden")) refl hidden_real refl) parameter_attribute_exchanged
 
 pub qualifying_exchanged : (linked : Bool) → Exchanges (qualifying linked) (qualifying_at linked)
 unfolding qualifying qualifying_at
@@ -70,13 +70,13 @@ abbrev is_name : List ℕ → Tok → Result Tok TokenFault
 is_name classes = is_valued tokens name_refusal classes global_named
 
 abbrev a_global : Tok
-a_global = sample kinds.Global heads.Global (codes "@a")
+a_global = sample forms.Global kinds.Global (codes "@a")
 
 named_exchanged : (classes : List ℕ) → among tokens classes a_global ≡ true → plain_names classes ≡ true → Exchanges (form.token (is_name classes)) (token_at (is_name classes))
 named_exchanged classes e p = name_valued classes global_named (named_rule classes e) p a_global a_global refl e refl global_real
 
 pub function_name_exchanged : (role : Role) (l : Linkage) → Exchanges (function_name role l) (function_name_at role l)
-function_name_exchanged roles.Declaration l = named_exchanged (number heads.LifetimeMarker ∷ GLOBAL) refl refl
+function_name_exchanged roles.Declaration l = named_exchanged (number kinds.LifetimeMarker ∷ GLOBAL) refl refl
 function_name_exchanged roles.Definition l = by_local (is_local l)
   where
     by_local : (b : Bool) → Exchanges (form.token (is_name (cond b (NUMBERED ++ GLOBAL) GLOBAL))) (token_at (is_name (cond b (NUMBERED ++ GLOBAL) GLOBAL)))
@@ -105,7 +105,7 @@ some_params_types room = types_first param_at param_types _
 
 pub listed_params_exchanged : (room : ℕ) → Exchanges any_listed_params (listed_params_at room)
 unfolding any_listed_params listed_params_at
-listed_params_exchanged room = typed_list heads.CloseParen refl close_paren_exchanged [] (seq (some_params_exchanged room) (λ ps. seq close_paren_exchanged (λ _. nothing ps))) (types_first (some_params_at room) (some_params_types room) _)
+listed_params_exchanged room = typed_list kinds.CloseParen refl close_paren_exchanged [] (seq (some_params_exchanged room) (λ ps. seq close_paren_exchanged (λ _. nothing ps))) (types_first (some_params_at room) (some_params_types room) _)
 
 pub params_exchanged : (room : ℕ) → Exchanges any_params (params_at room)
 unfolding params any_params params_at

@@ -3,14 +3,14 @@ use Rattle.std.proofs.Common.{◌≡◌, ℕ, zero, suc, nat_eq, Bool, true, fal
 use Rattle.std.proofs.lemmas.List.{append-nil}
 use Rattle.std.specs.Prelude.{codes}
 use Rattle.ir_lex.specs.Bytes.{has}
-use Rattle.ir_lex.specs.Heads.{number, head_of, word_head, listed_head, words_15}
+use Rattle.ir_lex.specs.TokenKinds.{number, kind_of, word_kind, listed_kind, words_15}
 use Rattle.ir_lex.specs.Lexing.{is_bad}
 use Rattle.ir_lex.specs.Quotes.{is_zero_name}
 use Rattle.ir_lex.specs.Rows.{best_fit, rest_fit, label_len, number_len, word_len, name_len, meta_len, dots_len, other_len, string_len}
 use Rattle.ir_lex.specs.Tok.{Tok}
-use Rattle.ir_lex.specs.declared.head.Head.TheVariants as heads
-use Rattle.ir_lex.specs.declared.head.Head.{Head}
-use Rattle.ir_lex.specs.declared.token.Kind.TheVariants as kinds
+use Rattle.ir_lex.specs.declared.token_kind.TokenKind.TheVariants as kinds
+use Rattle.ir_lex.specs.declared.token_kind.TokenKind.{TokenKind}
+use Rattle.ir_lex.specs.declared.token.TokenForm.TheVariants as forms
 use Rattle.ir_tree.specs.declared.operand.Reg.{Reg}
 use Rattle.ir_read.proofs.Composed.{all_real, reads}
 use Rattle.ir_read.specs.Alphabet.{among, contains, AllReal}
@@ -47,17 +47,17 @@ use Rattle.ir_parse.proofs.ExchangedShapes.{memory_shape_exchanged, angle_and_br
 use Rattle.ir_parse.proofs.ExchangedTokens.{one_sample, plain_class}
 use Rattle.ir_parse.proofs.ExchangedWords.{close_angle_exchanged, comma_exchanged, open_angle_exchanged, open_brace_exchanged, open_bracket_exchanged, close_brace_exchanged, close_bracket_exchanged}
 
-bytes_real : IsReal (sample kinds.CStr heads.CStr (codes "c\"\""))
-unfolding best_fit rest_fit label_len number_len word_len name_len meta_len dots_len other_len string_len has is_bad is_zero_name head_of
+bytes_real : IsReal (sample forms.CStr kinds.CStr (codes "c\"\""))
+unfolding best_fit rest_fit label_len number_len word_len name_len meta_len dots_len other_len string_len has is_bad is_zero_name kind_of
 bytes_real = record { behind = []; some = refl; fits = refl; good = refl; class = refl }
 
-zeros_real : IsReal (word heads.ZeroInitializer (codes "zeroinitializer"))
-unfolding best_fit rest_fit label_len number_len word_len name_len meta_len dots_len other_len string_len has is_bad is_zero_name head_of word_head listed_head words_15
+zeros_real : IsReal (word kinds.ZeroInitializer (codes "zeroinitializer"))
+unfolding best_fit rest_fit label_len number_len word_len name_len meta_len dots_len other_len string_len has is_bad is_zero_name kind_of word_kind listed_kind words_15
 zeros_real = record { behind = []; some = refl; fits = refl; good = refl; class = refl }
 
-pub zeros_word_exchanged : Exchanges (the heads.ZeroInitializer) (the_at heads.ZeroInitializer)
+pub zeros_word_exchanged : Exchanges (the kinds.ZeroInitializer) (the_at kinds.ZeroInitializer)
 unfolding is_class
-zeros_word_exchanged = plain_class heads.ZeroInitializer (the_rule heads.ZeroInitializer (word heads.ZeroInitializer (codes "zeroinitializer")) refl zeros_real) refl
+zeros_word_exchanged = plain_class kinds.ZeroInitializer (the_rule kinds.ZeroInitializer (word kinds.ZeroInitializer (codes "zeroinitializer")) refl zeros_real) refl
 
 pub zeros_exchanged : Exchanges zeros zeros_at
 unfolding zeros zeros_at
@@ -65,7 +65,7 @@ zeros_exchanged = seq zeros_word_exchanged (λ _. nothing _)
 
 pub bytes_exchanged : Exchanges bytes bytes_at
 unfolding bytes bytes_at
-bytes_exchanged = one_sample BYTES (λ t. inits.Bytes t) (sample kinds.CStr heads.CStr (codes "c\"\"")) refl bytes_real refl
+bytes_exchanged = one_sample BYTES (λ t. inits.Bytes t) (sample forms.CStr kinds.CStr (codes "c\"\"")) refl bytes_real refl
 
 pub aggregate_begin_exchanged : Exchanges aggregate_begin aggregate_begin_at
 unfolding aggregate_begin aggregate_begin_at array_begin array_begin_at structure_begin structure_begin_at packed_begin packed_begin_at
@@ -75,10 +75,10 @@ pub beginning_exchanged : (scalar : Option Reg) → Exchanges (beginning any_sha
 unfolding beginning beginning_at
 beginning_exchanged scalar = alt ZEROS refl zeros_exchanged (alt BYTES refl bytes_exchanged (alt BRACKETS refl aggregate_begin_exchanged (constant_exchanged scalar)))
 
-pub bracket_exchanged : Exchanges (mark false heads.CloseBracket) (mark_at false heads.CloseBracket)
+pub bracket_exchanged : Exchanges (mark false kinds.CloseBracket) (mark_at false kinds.CloseBracket)
 bracket_exchanged = close_bracket_exchanged
 
-pub brace_mark_exchanged : Exchanges (mark false heads.CloseBrace) (mark_at false heads.CloseBrace)
+pub brace_mark_exchanged : Exchanges (mark false kinds.CloseBrace) (mark_at false kinds.CloseBrace)
 brace_mark_exchanged = close_brace_exchanged
 
 pub angle_exchanged : (packed : Bool) → Exchanges (angle packed) (angle_at packed)
@@ -123,7 +123,7 @@ piece_exchanged false (aggregates.Struct packed ∷ outer) = alt (CLOSER (aggreg
 
 -- what is told there to be left out
 abbrev OUT : List ℕ
-OUT = number heads.RefusedType ∷ number heads.Target ∷ number heads.RegisterInteger ∷ number heads.Word ∷ []
+OUT = number kinds.RefusedType ∷ number kinds.Target ∷ number kinds.RegisterInteger ∷ number kinds.Word ∷ []
 
 -- what a part begins with, and what is told there
 abbrev WITH : Bool → List Aggregate → List ℕ
@@ -181,7 +181,7 @@ same : (n m : ℕ) → nat_eq n m ≡ true → n ≡ m
 same n m h = grind arith
 
 out_not : (n : ℕ) → contains OUT n ≡ false → memory_refusal n ≡ refusal n
-out_not n e = by_tests (nat_eq n (number heads.RefusedType)) (nat_eq n (number heads.Target)) (nat_eq n (number heads.RegisterInteger)) (nat_eq n (number heads.Word)) (refusal n) e
+out_not n e = by_tests (nat_eq n (number kinds.RefusedType)) (nat_eq n (number kinds.Target)) (nat_eq n (number kinds.RegisterInteger)) (nat_eq n (number kinds.Word)) (refusal n) e
   where
     by_tests : (a b c d : Bool) (k : TokenFault) → a || (b || (c || (d || false))) ≡ false → cond c Profile (cond (b || (a || false)) Profile k) ≡ k
     by_tests true b c d k e = absurd cc
@@ -189,33 +189,33 @@ out_not n e = by_tests (nat_eq n (number heads.RefusedType)) (nat_eq n (number h
     by_tests false false true d k e = absurd cc
     by_tests false false false d k e = refl
 
-over_told : (of : ℕ → Reader Tok Typed) (part : Bool → Extent → Reader Tok Typed) (innermost : Reader Tok Typed) (t : Tok) (ts : List Tok) → contains OUT (number t.head) ≡ true → shape_over_at of part innermost (t ∷ ts) ≡ innermost (t ∷ ts)
+over_told : (of : ℕ → Reader Tok Typed) (part : Bool → Extent → Reader Tok Typed) (innermost : Reader Tok Typed) (t : Tok) (ts : List Tok) → contains OUT (number t.kind) ≡ true → shape_over_at of part innermost (t ∷ ts) ≡ innermost (t ∷ ts)
 unfolding shape_over_at
 over_told of part innermost t ts e =
-    passed OPEN_BRACKET (array_at of) (pick (among tokens OPEN_BRACE) (structure_at (part false)) (pick (among tokens OPEN_ANGLE) (packed_at (part true)) innermost)) t ts (apart OUT OPEN_BRACKET refl (number t.head) e)
-    ∙ passed OPEN_BRACE (structure_at (part false)) (pick (among tokens OPEN_ANGLE) (packed_at (part true)) innermost) t ts (apart OUT OPEN_BRACE refl (number t.head) e)
-    ∙ passed OPEN_ANGLE (packed_at (part true)) innermost t ts (apart OUT OPEN_ANGLE refl (number t.head) e)
+    passed OPEN_BRACKET (array_at of) (pick (among tokens OPEN_BRACE) (structure_at (part false)) (pick (among tokens OPEN_ANGLE) (packed_at (part true)) innermost)) t ts (apart OUT OPEN_BRACKET refl (number t.kind) e)
+    ∙ passed OPEN_BRACE (structure_at (part false)) (pick (among tokens OPEN_ANGLE) (packed_at (part true)) innermost) t ts (apart OUT OPEN_BRACE refl (number t.kind) e)
+    ∙ passed OPEN_ANGLE (packed_at (part true)) innermost t ts (apart OUT OPEN_ANGLE refl (number t.kind) e)
 
-leaf_told : (room : Room) (t : Tok) (ts : List Tok) → contains OUT (number t.head) ≡ true → leaf_at room (t ∷ ts) ≡ fault_at (memory_refusal (number t.head)) (t ∷ ts)
-leaf_told room t ts e = ap (token_means t ts) (leaf_outside room t (apart OUT LEAF refl (number t.head) e))
+leaf_told : (room : Room) (t : Tok) (ts : List Tok) → contains OUT (number t.kind) ≡ true → leaf_at room (t ∷ ts) ≡ fault_at (memory_refusal (number t.kind)) (t ∷ ts)
+leaf_told room t ts e = ap (token_means t ts) (leaf_outside room t (apart OUT LEAF refl (number t.kind) e))
 
-shape_told : (depth : ℕ) (room : Room) (t : Tok) (ts : List Tok) → contains OUT (number t.head) ≡ true → shape_at depth room (t ∷ ts) ≡ fault_at (memory_refusal (number t.head)) (t ∷ ts)
+shape_told : (depth : ℕ) (room : Room) (t : Tok) (ts : List Tok) → contains OUT (number t.kind) ≡ true → shape_at depth room (t ∷ ts) ≡ fault_at (memory_refusal (number t.kind)) (t ∷ ts)
 unfolding innermost_at
-shape_told zero room t ts e = passed BRACKETS (fault_at Limit) (leaf_at room) t ts (apart OUT BRACKETS refl (number t.head) e) ∙ leaf_told room t ts e
+shape_told zero room t ts e = passed BRACKETS (fault_at Limit) (leaf_at room) t ts (apart OUT BRACKETS refl (number t.kind) e) ∙ leaf_told room t ts e
 shape_told (suc depth) room t ts e = over_told (λ n. shape_at depth (shared n room)) (λ packed s. shape_at depth (left packed room s)) (leaf_at room) t ts e ∙ leaf_told room t ts e
 
-memory_told : (t : Tok) (ts : List Tok) → contains OUT (number t.head) ≡ true → memory_shape_at (t ∷ ts) ≡ fault_at (memory_refusal (number t.head)) (t ∷ ts)
+memory_told : (t : Tok) (ts : List Tok) → contains OUT (number t.kind) ≡ true → memory_shape_at (t ∷ ts) ≡ fault_at (memory_refusal (number t.kind)) (t ∷ ts)
 unfolding memory_shape_at
 memory_told t ts e = shape_told 32 whole t ts e
 
-told_first : {A B : Type 0} (f : Reader Tok A) (h : A → Reader Tok B) (t : Tok) (ts : List Tok) → f (t ∷ ts) ≡ fault_at (memory_refusal (number t.head)) (t ∷ ts) → (f >>= h) (t ∷ ts) ≡ fault_at (memory_refusal (number t.head)) (t ∷ ts)
+told_first : {A B : Type 0} (f : Reader Tok A) (h : A → Reader Tok B) (t : Tok) (ts : List Tok) → f (t ∷ ts) ≡ fault_at (memory_refusal (number t.kind)) (t ∷ ts) → (f >>= h) (t ∷ ts) ≡ fault_at (memory_refusal (number t.kind)) (t ∷ ts)
 told_first {A} f h t ts e = ap (λ (r : Result (A × List Tok) Fault). follow r h) e
 
-first_part_told : (t : Tok) (ts : List Tok) → contains OUT (number t.head) ≡ true → part_at true (t ∷ ts) ≡ fault_at (memory_refusal (number t.head)) (t ∷ ts)
+first_part_told : (t : Tok) (ts : List Tok) → contains OUT (number t.kind) ≡ true → part_at true (t ∷ ts) ≡ fault_at (memory_refusal (number t.kind)) (t ∷ ts)
 unfolding part_at
 first_part_told t ts e = told_first memory_shape_at _ t ts (memory_told t ts e)
 
-part_told : (t : Tok) (ts : List Tok) → contains OUT (number t.head) ≡ true → there_at (true, []) (t ∷ ts) ≡ fault_at (memory_refusal (number t.head)) (t ∷ ts)
+part_told : (t : Tok) (ts : List Tok) → contains OUT (number t.kind) ≡ true → there_at (true, []) (t ∷ ts) ≡ fault_at (memory_refusal (number t.kind)) (t ∷ ts)
 unfolding begun_at
 part_told t ts e = told_first (part_at true) _ t ts (first_part_told t ts e)
 
@@ -225,7 +225,7 @@ fine u = Ok u
 abbrev failed : TokenFault → Result (Unit {0}) TokenFault
 failed k = Err k
 
-no_mark : (wanted : Head) → contains OUT (number wanted) ≡ false → (n : ℕ) → contains OUT n ≡ true → nat_eq n (number wanted) ≡ false
+no_mark : (wanted : TokenKind) → contains OUT (number wanted) ≡ false → (n : ℕ) → contains OUT n ≡ true → nat_eq n (number wanted) ≡ false
 no_mark wanted a n e = by_test (nat_eq n (number wanted)) refl
   where
     differ : true ≡ false → ⊥
@@ -235,23 +235,23 @@ no_mark wanted a n e = by_test (nat_eq n (number wanted)) refl
     by_test true p = absurd (differ (sym e ∙ ap (contains OUT) (same n (number wanted) p) ∙ a))
     by_test false p = refl
 
-mark_told : (wanted : Head) → contains OUT (number wanted) ≡ false → (t : Tok) (ts : List Tok) → contains OUT (number t.head) ≡ true → mark_at true wanted (t ∷ ts) ≡ fault_at (memory_refusal (number t.head)) (t ∷ ts)
+mark_told : (wanted : TokenKind) → contains OUT (number wanted) ≡ false → (t : Tok) (ts : List Tok) → contains OUT (number t.kind) ≡ true → mark_at true wanted (t ∷ ts) ≡ fault_at (memory_refusal (number t.kind)) (t ∷ ts)
 unfolding is_class
-mark_told wanted a t ts e = ap (λ (b : Bool). token_means t ts (cond b (fine tt) (failed (memory_refusal (number t.head))))) (no_mark wanted a (number t.head) e)
+mark_told wanted a t ts e = ap (λ (b : Bool). token_means t ts (cond b (fine tt) (failed (memory_refusal (number t.kind))))) (no_mark wanted a (number t.kind) e)
 
-mark_same : (wanted : Head) (t : Tok) (ts : List Tok) → contains OUT (number t.head) ≡ false → mark_at false wanted (t ∷ ts) ≡ mark_at true wanted (t ∷ ts)
+mark_same : (wanted : TokenKind) (t : Tok) (ts : List Tok) → contains OUT (number t.kind) ≡ false → mark_at false wanted (t ∷ ts) ≡ mark_at true wanted (t ∷ ts)
 unfolding is_class
-mark_same wanted t ts e = ap (λ (k : TokenFault). token_means t ts (cond (nat_eq (number t.head) (number wanted)) (fine tt) (failed k))) (sym (out_not (number t.head) e))
+mark_same wanted t ts e = ap (λ (k : TokenFault). token_means t ts (cond (nat_eq (number t.kind) (number wanted)) (fine tt) (failed k))) (sym (out_not (number t.kind) e))
 
-closing_told : (a : Aggregate) (t : Tok) (ts : List Tok) → contains OUT (number t.head) ≡ true → closing_at true a (t ∷ ts) ≡ fault_at (memory_refusal (number t.head)) (t ∷ ts)
+closing_told : (a : Aggregate) (t : Tok) (ts : List Tok) → contains OUT (number t.kind) ≡ true → closing_at true a (t ∷ ts) ≡ fault_at (memory_refusal (number t.kind)) (t ∷ ts)
 unfolding brace_at
-closing_told aggregates.Array t ts e = mark_told heads.CloseBracket refl t ts e
-closing_told (aggregates.Struct packed) t ts e = ap (λ (r : Result (Unit {0} × List Tok) Fault). follow r (λ _. angle_at packed)) (mark_told heads.CloseBrace refl t ts e)
+closing_told aggregates.Array t ts e = mark_told kinds.CloseBracket refl t ts e
+closing_told (aggregates.Struct packed) t ts e = ap (λ (r : Result (Unit {0} × List Tok) Fault). follow r (λ _. angle_at packed)) (mark_told kinds.CloseBrace refl t ts e)
 
-closing_same : (a : Aggregate) (t : Tok) (ts : List Tok) → contains OUT (number t.head) ≡ false → closing_at false a (t ∷ ts) ≡ closing_at true a (t ∷ ts)
+closing_same : (a : Aggregate) (t : Tok) (ts : List Tok) → contains OUT (number t.kind) ≡ false → closing_at false a (t ∷ ts) ≡ closing_at true a (t ∷ ts)
 unfolding brace_at
-closing_same aggregates.Array t ts e = mark_same heads.CloseBracket t ts e
-closing_same (aggregates.Struct packed) t ts e = ap (λ (r : Result (Unit {0} × List Tok) Fault). follow r (λ _. angle_at packed)) (mark_same heads.CloseBrace t ts e)
+closing_same aggregates.Array t ts e = mark_same kinds.CloseBracket t ts e
+closing_same (aggregates.Struct packed) t ts e = ap (λ (r : Result (Unit {0} × List Tok) Fault). follow r (λ _. angle_at packed)) (mark_same kinds.CloseBrace t ts e)
 
 abbrev ends_plainly : Aggregate → List InitPart → Reader Tok (List InitPart)
 ends_plainly a ps = closing_at false a >>= λ _. done (ps ++ init_parts.End ∷ [])
@@ -260,7 +260,7 @@ abbrev ends_told : Aggregate → List InitPart → Reader Tok (List InitPart)
 ends_told a ps = closing_at (is_none ps) a >>= λ _. done (ps ++ init_parts.End ∷ [])
 
 out_with : (n : ℕ) → contains OUT n ≡ true → contains (OUT ++ SHAPE) n ≡ true
-out_with n e = by_tests (nat_eq n (number heads.RefusedType)) (nat_eq n (number heads.Target)) (nat_eq n (number heads.RegisterInteger)) (nat_eq n (number heads.Word)) (contains SHAPE n) e
+out_with n e = by_tests (nat_eq n (number kinds.RefusedType)) (nat_eq n (number kinds.Target)) (nat_eq n (number kinds.RegisterInteger)) (nat_eq n (number kinds.Word)) (contains SHAPE n) e
   where
     by_tests : (a b c d s : Bool) → a || (b || (c || (d || false))) ≡ true → a || (b || (c || (d || s))) ≡ true
     by_tests true b c d s e = refl
@@ -270,7 +270,7 @@ out_with n e = by_tests (nat_eq n (number heads.RefusedType)) (nat_eq n (number 
     by_tests false false false false s e = absurd cc
 
 out_without : (n : ℕ) → contains OUT n ≡ false → contains (OUT ++ SHAPE) n ≡ contains SHAPE n
-out_without n e = by_tests (nat_eq n (number heads.RefusedType)) (nat_eq n (number heads.Target)) (nat_eq n (number heads.RegisterInteger)) (nat_eq n (number heads.Word)) (contains SHAPE n) e
+out_without n e = by_tests (nat_eq n (number kinds.RefusedType)) (nat_eq n (number kinds.Target)) (nat_eq n (number kinds.RegisterInteger)) (nat_eq n (number kinds.Word)) (contains SHAPE n) e
   where
     by_tests : (a b c d s : Bool) → a || (b || (c || (d || false))) ≡ false → a || (b || (c || (d || s))) ≡ s
     by_tests true b c d s e = absurd cc
@@ -302,15 +302,15 @@ module _ (a : Aggregate) where
 
   parts_same : (ts : List Tok) → (chain_at outermost begins_with there_at (true, []) >>= ends_plainly a) ts ≡ (listed_at >>= ends_told a) ts
   parts_same [] = empty_same
-  parts_same (t ∷ ts) = by_test (contains OUT (number t.head)) refl
+  parts_same (t ∷ ts) = by_test (contains OUT (number t.kind)) refl
     where
-      by_shape : (b : Bool) → contains OUT (number t.head) ≡ false → follow (cond (not b) (reads [] (t ∷ ts)) (follow (there_at (true, []) (t ∷ ts)) (some_more (length (t ∷ ts)) begins_with))) (ends_plainly a) ≡ follow (cond (not b) (reads [] (t ∷ ts)) (follow (there_at (true, []) (t ∷ ts)) (some_more (length (t ∷ ts)) begins_there))) (ends_told a)
+      by_shape : (b : Bool) → contains OUT (number t.kind) ≡ false → follow (cond (not b) (reads [] (t ∷ ts)) (follow (there_at (true, []) (t ∷ ts)) (some_more (length (t ∷ ts)) begins_with))) (ends_plainly a) ≡ follow (cond (not b) (reads [] (t ∷ ts)) (follow (there_at (true, []) (t ∷ ts)) (some_more (length (t ∷ ts)) begins_there))) (ends_told a)
       by_shape true e = first_part (length (t ∷ ts)) t ts (there_at (true, []) (t ∷ ts)) refl
       by_shape false e = ap (λ (r : Result (Unit {0} × List Tok) Fault). follow r (λ _. done ([] ++ init_parts.End ∷ []))) (closing_same a t ts e)
 
-      by_test : (b : Bool) → contains OUT (number t.head) ≡ b → follow (cond (not (contains (OUT ++ SHAPE) (number t.head))) (reads [] (t ∷ ts)) (follow (there_at (true, []) (t ∷ ts)) (some_more (length (t ∷ ts)) begins_with))) (ends_plainly a) ≡ follow (cond (not (contains SHAPE (number t.head))) (reads [] (t ∷ ts)) (follow (there_at (true, []) (t ∷ ts)) (some_more (length (t ∷ ts)) begins_there))) (ends_told a)
-      by_test true e = rw (out_with (number t.head) e, apart OUT SHAPE refl (number t.head) e, part_told t ts e) (sym (ap (λ (r : Result (Unit {0} × List Tok) Fault). follow r (λ _. done ([] ++ init_parts.End ∷ []))) (closing_told a t ts e)))
-      by_test false e = rw (out_without (number t.head) e) (by_shape (contains SHAPE (number t.head)) e)
+      by_test : (b : Bool) → contains OUT (number t.kind) ≡ b → follow (cond (not (contains (OUT ++ SHAPE) (number t.kind))) (reads [] (t ∷ ts)) (follow (there_at (true, []) (t ∷ ts)) (some_more (length (t ∷ ts)) begins_with))) (ends_plainly a) ≡ follow (cond (not (contains SHAPE (number t.kind))) (reads [] (t ∷ ts)) (follow (there_at (true, []) (t ∷ ts)) (some_more (length (t ∷ ts)) begins_there))) (ends_told a)
+      by_test true e = rw (out_with (number t.kind) e, apart OUT SHAPE refl (number t.kind) e, part_told t ts e) (sym (ap (λ (r : Result (Unit {0} × List Tok) Fault). follow r (λ _. done ([] ++ init_parts.End ∷ []))) (closing_told a t ts e)))
+      by_test false e = rw (out_without (number t.kind) e) (by_shape (contains SHAPE (number t.kind)) e)
 
 -- ---- the parts of an initialiser
 
@@ -336,21 +336,21 @@ fair_there first (a ∷ open_ones) e = absurd cc
 all_parts_exchanged : Exchanges (listed any_shape) (chain_at outermost begins_with there_at (true, []))
 all_parts_exchanged = chain outermost (λ s. WITH s.0 s.1) (λ s. piece any_shape s.0 s.1) there_at (λ s. piece_exchanged s.0 s.1) (λ s x q. taken (piece_rule s.0 s.1) x q) (λ s. finished s.0 s.1) (λ s e. fair_there s.0 s.1 e) (true, [])
 
-mark_too : (none : Bool) (wanted : Head) (ts : List Tok) (u : Unit {0}) → mark false wanted ts u → mark none wanted ts u
+mark_too : (none : Bool) (wanted : TokenKind) (ts : List Tok) (u : Unit {0}) → mark false wanted ts u → mark none wanted ts u
 unfolding is_class
 mark_too false wanted ts u s = s
 mark_too true wanted [] u s = absurd s
 mark_too true wanted (t ∷ v ∷ ts) u s = absurd s
-mark_too true wanted (t ∷ []) u s = by_test (nat_eq (number t.head) (number wanted)) s
+mark_too true wanted (t ∷ []) u s = by_test (nat_eq (number t.kind) (number wanted)) s
   where
-    by_test : (b : Bool) → cond b (fine tt) (failed (refusal (number t.head))) ≡ fine u → cond b (fine tt) (failed (memory_refusal (number t.head))) ≡ fine u
+    by_test : (b : Bool) → cond b (fine tt) (failed (refusal (number t.kind))) ≡ fine u → cond b (fine tt) (failed (memory_refusal (number t.kind))) ≡ fine u
     by_test true s = s
     by_test false s = absurd cc
 
 closing_too : (none : Bool) (a : Aggregate) (ts : List Tok) (u : Unit {0}) → closing false a ts u → closing none a ts u
 unfolding brace form.◌>>=◌
-closing_too none aggregates.Array ts u s = mark_too none heads.CloseBracket ts u s
-closing_too none (aggregates.Struct packed) ts u (front, back, v, e, s, r) = (front, back, v, e, mark_too none heads.CloseBrace front v s, r)
+closing_too none aggregates.Array ts u s = mark_too none kinds.CloseBracket ts u s
+closing_too none (aggregates.Struct packed) ts u (front, back, v, e, s, r) = (front, back, v, e, mark_too none kinds.CloseBrace front v s, r)
 
 parts_too : (a : Aggregate) (ts : List Tok) (ps : List InitPart) → form.◌>>=◌ (listed any_shape) (λ ps. form.◌>>=◌ (closing false a) (λ _. form.gives (ps ++ init_parts.End ∷ []))) ts ps → parts any_shape a ts ps
 unfolding parts form.◌>>=◌

@@ -1,7 +1,7 @@
 -- The readers of instructions tell a token that is left out in some places where one that it stands for goes on.
 use Rattle.std.proofs.Common.{refl}
 use Rattle.std.specs.Prelude.{codes}
-use Rattle.ir_lex.specs.declared.head.Head.TheVariants as heads
+use Rattle.ir_lex.specs.declared.token_kind.TokenKind.TheVariants as kinds
 use Rattle.ir_tree.specs.declared.instr.BinaryOp.{BinaryOp}
 use Rattle.ir_tree.specs.declared.instr.CastOp.{CastOp}
 use Rattle.ir_tree.specs.declared.instr.Flags.{Flags}
@@ -45,7 +45,7 @@ joining_exchanged = seq maybe_disjoint_exchanged (λ _. on_two_exchanged _ _)
 
 pub comparing_exchanged : Exchanges (comparing any_shape) comparing_at
 unfolding comparing comparing_at
-comparing_exchanged = seq maybe_samesign_exchanged (λ _. seq (one_sample PREDICATES predicate_of (word heads.Eq (codes "eq")) refl equal_real refl) (λ _. seq reg_exchanged (λ r. seq (operand_exchanged r) (λ _. seq comma_exchanged (λ _. seq (operand_exchanged r) (λ _. nothing _))))))
+comparing_exchanged = seq maybe_samesign_exchanged (λ _. seq (one_sample PREDICATES predicate_of (word kinds.Eq (codes "eq")) refl equal_real refl) (λ _. seq reg_exchanged (λ r. seq (operand_exchanged r) (λ _. seq comma_exchanged (λ _. seq (operand_exchanged r) (λ _. nothing _))))))
 
 pub casting_exchanged : (op : CastOp) → Exchanges (casting any_shape op) (casting_at op)
 unfolding casting casting_at

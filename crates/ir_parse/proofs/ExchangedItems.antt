@@ -3,13 +3,13 @@ use Rattle.std.proofs.Common.{None, ◌≡◌, ℕ, ◌-◌, nat_eq, Bool, true,
 use Rattle.std.proofs.lemmas.List.{length-append, append_assoc}
 use Rattle.std.specs.Prelude.{codes}
 use Rattle.ir_lex.specs.Bytes.{has}
-use Rattle.ir_lex.specs.Heads.{number, head_of, word_head, listed_head, words_7}
+use Rattle.ir_lex.specs.TokenKinds.{number, kind_of, word_kind, listed_kind, words_7}
 use Rattle.ir_lex.specs.Lexing.{is_bad}
 use Rattle.ir_lex.specs.Quotes.{is_zero_name}
 use Rattle.ir_lex.specs.Rows.{best_fit, rest_fit, label_len, number_len, word_len, name_len, meta_len, dots_len, other_len, string_len}
 use Rattle.ir_lex.specs.Tok.{Tok}
-use Rattle.ir_lex.specs.declared.head.Head.TheVariants as heads
-use Rattle.ir_lex.specs.declared.head.Head.{Head}
+use Rattle.ir_lex.specs.declared.token_kind.TokenKind.TheVariants as kinds
+use Rattle.ir_lex.specs.declared.token_kind.TokenKind.{TokenKind}
 use Rattle.ir_read.proofs.Composed.{wrong, wrong_is}
 use Rattle.ir_read.proofs.Rules.{within_of}
 use Rattle.ir_read.specs.Alphabet.{among, contains}
@@ -42,7 +42,7 @@ use Rattle.ir_globals.specs.TypeDefinitionsAt.{type_line_at}
 use Rattle.ir_globals.specs.Variables.{NAMES}
 use Rattle.ir_globals.specs.VariablesAt.{variable_line_at, variable_name_at}
 use Rattle.ir_bodies.specs.Blocks.{any_definition}
-use Rattle.ir_parse.specs.ItemForms.{left_out, kept, unnamed, attribute_behind, placed, metadata_there, plainly, beside, attached_before, declaration, any_declaration, any_naming, other, any_named, any_piece, anywhere, at_place, Found}
+use Rattle.ir_parse.specs.ItemForms.{left_out, kept, unnamed, attribute_behind, placed, metadata_there, plainly, beside, attached_before, declaration, any_declaration, any_naming, other, any_named, any_piece, anywhere, at_place, ParsedItem}
 use Rattle.ir_parse.specs.ItemFormsAt.{SOURCE, TARGET, COMDAT, DECLARE, NAMING, left_out_at, kept_at, unnamed_at, attribute_behind_at, placed_at, metadata_there_at, plainly_at, beside_at, attached_before_at, declaration_at, other_at, ITEM}
 use Rattle.ir_parse.proofs.ItemRules.{there_rule}
 use Rattle.ir_parse.specs.Refusals.{MEMORY, WORD}
@@ -59,18 +59,18 @@ use Rattle.ir_parse.proofs.ExchangedTokens.{plain_class}
 use Rattle.ir_parse.proofs.ExchangedTypeDefinitions.{type_line_exchanged}
 use Rattle.ir_parse.proofs.ExchangedVariables.{variable_line_exchanged}
 
-declare_real : IsReal (word heads.Declare (codes "declare"))
-unfolding best_fit rest_fit label_len number_len word_len name_len meta_len dots_len other_len string_len has is_bad is_zero_name head_of word_head listed_head words_7
+declare_real : IsReal (word kinds.Declare (codes "declare"))
+unfolding best_fit rest_fit label_len number_len word_len name_len meta_len dots_len other_len string_len has is_bad is_zero_name kind_of word_kind listed_kind words_7
 declare_real = record { behind = []; some = refl; fits = refl; good = refl; class = refl }
 
 -- types and plain words, which begin no item
 abbrev pub TYPES : List ℕ
-TYPES = number heads.RefusedType ∷ number heads.Word ∷ REG
+TYPES = number kinds.RefusedType ∷ number kinds.Word ∷ REG
 
 abbrev TARGETS : List ℕ
-TARGETS = number heads.Target ∷ TYPES
+TARGETS = number kinds.Target ∷ TYPES
 
-abbrev behind_targets : Reader Tok Found
+abbrev behind_targets : Reader Tok ParsedItem
 behind_targets = pick (among tokens COMDAT) (left_out_at comdat_line_at) (pick (among tokens LOCAL) (kept_at type_line_at) (kept_at attribute_group_at))
 
 abbrev fine : Unit {0} → Result (Unit {0}) TokenFault
@@ -86,52 +86,52 @@ not_class wanted n e = by_test (nat_eq n wanted) e
     by_test true e = absurd cc
     by_test false e = refl
 
-refused_first : {B : Type 0} (wanted : Head) (h : Unit {0} → Reader Tok B) (t : Tok) (ts : List Tok) → contains (number wanted ∷ []) (number t.head) ≡ false → (the_at wanted >>= h) (t ∷ ts) ≡ fault_at (refusal (number t.head)) (t ∷ ts)
+refused_first : {B : Type 0} (wanted : TokenKind) (h : Unit {0} → Reader Tok B) (t : Tok) (ts : List Tok) → contains (number wanted ∷ []) (number t.kind) ≡ false → (the_at wanted >>= h) (t ∷ ts) ≡ fault_at (refusal (number t.kind)) (t ∷ ts)
 unfolding is_class
-refused_first wanted h t ts e = ap (λ (b : Bool). follow (token_means t ts (cond b (fine tt) (failed (refusal (number t.head))))) h) (not_class (number wanted) (number t.head) e)
+refused_first wanted h t ts e = ap (λ (b : Bool). follow (token_means t ts (cond b (fine tt) (failed (refusal (number t.kind))))) h) (not_class (number wanted) (number t.kind) e)
 
 then_refused : {A B : Type 0} (f : Reader Tok A) (h : A → Reader Tok B) (k : TokenFault) (t : Tok) (ts : List Tok) → f (t ∷ ts) ≡ fault_at k (t ∷ ts) → (f >>= h) (t ∷ ts) ≡ fault_at k (t ∷ ts)
 then_refused {A} f h k t ts e = ap (λ (r : Result (A × List Tok) Fault). follow r h) e
 
-target_refuses : (t : Tok) (ts : List Tok) → contains TYPES (number t.head) ≡ true → kept_at target_line_at (t ∷ ts) ≡ fault_at (refusal (number t.head)) (t ∷ ts)
+target_refuses : (t : Tok) (ts : List Tok) → contains TYPES (number t.kind) ≡ true → kept_at target_line_at (t ∷ ts) ≡ fault_at (refusal (number t.kind)) (t ∷ ts)
 unfolding kept_at target_line_at
-target_refuses t ts e = then_refused target_line_at _ (refusal (number t.head)) t ts (refused_first heads.Target _ t ts (apart TYPES (number heads.Target ∷ []) refl (number t.head) e))
+target_refuses t ts e = then_refused target_line_at _ (refusal (number t.kind)) t ts (refused_first kinds.Target _ t ts (apart TYPES (number kinds.Target ∷ []) refl (number t.kind) e))
 
-group_refuses : (t : Tok) (ts : List Tok) → contains TYPES (number t.head) ≡ true → kept_at attribute_group_at (t ∷ ts) ≡ fault_at (refusal (number t.head)) (t ∷ ts)
+group_refuses : (t : Tok) (ts : List Tok) → contains TYPES (number t.kind) ≡ true → kept_at attribute_group_at (t ∷ ts) ≡ fault_at (refusal (number t.kind)) (t ∷ ts)
 unfolding kept_at attribute_group_at
-group_refuses t ts e = then_refused attribute_group_at _ (refusal (number t.head)) t ts (refused_first heads.Attributes _ t ts (apart TYPES (number heads.Attributes ∷ []) refl (number t.head) e))
+group_refuses t ts e = then_refused attribute_group_at _ (refusal (number t.kind)) t ts (refused_first kinds.Attributes _ t ts (apart TYPES (number kinds.Attributes ∷ []) refl (number t.kind) e))
 
-behind_refuses : (t : Tok) (ts : List Tok) → contains TYPES (number t.head) ≡ true → behind_targets (t ∷ ts) ≡ fault_at (refusal (number t.head)) (t ∷ ts)
+behind_refuses : (t : Tok) (ts : List Tok) → contains TYPES (number t.kind) ≡ true → behind_targets (t ∷ ts) ≡ fault_at (refusal (number t.kind)) (t ∷ ts)
 behind_refuses t ts e =
-    passed COMDAT (left_out_at comdat_line_at) (pick (among tokens LOCAL) (kept_at type_line_at) (kept_at attribute_group_at)) t ts (apart TYPES COMDAT refl (number t.head) e)
-    ∙ passed LOCAL (kept_at type_line_at) (kept_at attribute_group_at) t ts (apart TYPES LOCAL refl (number t.head) e) ∙ group_refuses t ts e
+    passed COMDAT (left_out_at comdat_line_at) (pick (among tokens LOCAL) (kept_at type_line_at) (kept_at attribute_group_at)) t ts (apart TYPES COMDAT refl (number t.kind) e)
+    ∙ passed LOCAL (kept_at type_line_at) (kept_at attribute_group_at) t ts (apart TYPES LOCAL refl (number t.kind) e) ∙ group_refuses t ts e
 
-pub unnamed_refuses : (t : Tok) (ts : List Tok) → contains TYPES (number t.head) ≡ true → unnamed_at (t ∷ ts) ≡ fault_at (refusal (number t.head)) (t ∷ ts)
+pub unnamed_refuses : (t : Tok) (ts : List Tok) → contains TYPES (number t.kind) ≡ true → unnamed_at (t ∷ ts) ≡ fault_at (refusal (number t.kind)) (t ∷ ts)
 unfolding unnamed_at
 unnamed_refuses t ts e =
-    passed SOURCE (left_out_at source_line_at) (pick (among tokens TARGET) (kept_at target_line_at) behind_targets) t ts (apart TYPES SOURCE refl (number t.head) e)
-    ∙ passed TARGET (kept_at target_line_at) behind_targets t ts (apart TYPES TARGET refl (number t.head) e) ∙ behind_refuses t ts e
+    passed SOURCE (left_out_at source_line_at) (pick (among tokens TARGET) (kept_at target_line_at) behind_targets) t ts (apart TYPES SOURCE refl (number t.kind) e)
+    ∙ passed TARGET (kept_at target_line_at) behind_targets t ts (apart TYPES TARGET refl (number t.kind) e) ∙ behind_refuses t ts e
 
 targets_same : (ts : List Tok) → pick (among tokens TARGETS) (kept_at target_line_at) behind_targets ts ≡ pick (among tokens TARGET) (kept_at target_line_at) behind_targets ts
 targets_same [] = refl
-targets_same (t ∷ ts) = by_test (contains TYPES (number t.head)) refl
+targets_same (t ∷ ts) = by_test (contains TYPES (number t.kind)) refl
   where
     by_target : (a b : Bool) → b ≡ false → cond (a || b) (kept_at target_line_at (t ∷ ts)) (behind_targets (t ∷ ts)) ≡ cond (a || false) (kept_at target_line_at (t ∷ ts)) (behind_targets (t ∷ ts))
     by_target a true e = absurd cc
     by_target a false e = refl
 
-    told : (a : Bool) → contains TYPES (number t.head) ≡ true → cond a (kept_at target_line_at (t ∷ ts)) (behind_targets (t ∷ ts)) ≡ behind_targets (t ∷ ts)
+    told : (a : Bool) → contains TYPES (number t.kind) ≡ true → cond a (kept_at target_line_at (t ∷ ts)) (behind_targets (t ∷ ts)) ≡ behind_targets (t ∷ ts)
     told true e = target_refuses t ts e ∙ sym (behind_refuses t ts e)
     told false e = refl
 
-    by_test : (b : Bool) → contains TYPES (number t.head) ≡ b → cond (among tokens TARGETS t) (kept_at target_line_at (t ∷ ts)) (behind_targets (t ∷ ts)) ≡ cond (among tokens TARGET t) (kept_at target_line_at (t ∷ ts)) (behind_targets (t ∷ ts))
+    by_test : (b : Bool) → contains TYPES (number t.kind) ≡ b → cond (among tokens TARGETS t) (kept_at target_line_at (t ∷ ts)) (behind_targets (t ∷ ts)) ≡ cond (among tokens TARGET t) (kept_at target_line_at (t ∷ ts)) (behind_targets (t ∷ ts))
     by_test true e = told (among tokens TARGETS t) e ∙ sym (told (among tokens TARGET t) e)
-    by_test false e = by_target (nat_eq (number t.head) (number heads.Target)) (contains TYPES (number t.head)) e
+    by_test false e = by_target (nat_eq (number t.kind) (number kinds.Target)) (contains TYPES (number t.kind)) e
 
 unnamed_same : (ts : List Tok) → pick (among tokens SOURCE) (left_out_at source_line_at) (pick (among tokens TARGETS) (kept_at target_line_at) behind_targets) ts ≡ unnamed_at ts
 unfolding unnamed_at
 unnamed_same [] = refl
-unnamed_same (t ∷ ts) = ap (λ (r : Result (Found × List Tok) Fault). cond (among tokens SOURCE t) (left_out_at source_line_at (t ∷ ts)) r) (targets_same (t ∷ ts))
+unnamed_same (t ∷ ts) = ap (λ (r : Result (ParsedItem × List Tok) Fault). cond (among tokens SOURCE t) (left_out_at source_line_at (t ∷ ts)) r) (targets_same (t ∷ ts))
 
 pub unnamed_exchanged : Exchanges (unnamed any_shape) unnamed_at
 unfolding unnamed left_out left_out_at kept kept_at
@@ -147,24 +147,24 @@ metadata_there_exchanged befores.Item = value_loosely _ metadata_line_exchanged
 metadata_there_exchanged befores.Declaration = value_loosely (λ before. (None, before)) metadata_behind_exchanged
 metadata_there_exchanged befores.Name = value_loosely (λ before. (None, before)) node_yet_exchanged
 
-abbrev found : Item → Found
+abbrev found : Item → ParsedItem
 found i = (Some i, befores.Item)
 
 -- `target` goes on there
-target_read : (t : Tok) (rest : List Tok) → is_target t.head ≡ true → kept_at target_line_at (t ∷ rest) ≡ (pick (among tokens LAYOUT) layout_line_at triple_line_at >>= λ i. done (found i)) rest
+target_read : (t : Tok) (rest : List Tok) → is_target t.kind ≡ true → kept_at target_line_at (t ∷ rest) ≡ (pick (among tokens LAYOUT) layout_line_at triple_line_at >>= λ i. done (found i)) rest
 unfolding kept_at target_line_at is_class
-target_read t rest q = ap (λ (n : ℕ). follow (follow (token_means t rest (cond (nat_eq n (number heads.Target)) (fine tt) (failed (refusal n)))) (λ _. pick (among tokens LAYOUT) layout_line_at triple_line_at)) (λ i. done (found i))) (target_is t.head q)
+target_read t rest q = ap (λ (n : ℕ). follow (follow (token_means t rest (cond (nat_eq n (number kinds.Target)) (fine tt) (failed (refusal n)))) (λ _. pick (among tokens LAYOUT) layout_line_at triple_line_at)) (λ i. done (found i))) (target_is t.kind q)
 
-unnamed_read : (t : Tok) (rest : List Tok) → is_target t.head ≡ true → unnamed_at (t ∷ rest) ≡ kept_at target_line_at (t ∷ rest)
+unnamed_read : (t : Tok) (rest : List Tok) → is_target t.kind ≡ true → unnamed_at (t ∷ rest) ≡ kept_at target_line_at (t ∷ rest)
 unfolding unnamed_at
 unnamed_read t rest q =
-    passed SOURCE (left_out_at source_line_at) (pick (among tokens TARGET) (kept_at target_line_at) behind_targets) t rest (ap (contains SOURCE) (target_is t.head q))
-    ∙ taken_first TARGET (kept_at target_line_at) behind_targets t rest (ap (contains TARGET) (target_is t.head q))
+    passed SOURCE (left_out_at source_line_at) (pick (among tokens TARGET) (kept_at target_line_at) behind_targets) t rest (ap (contains SOURCE) (target_is t.kind q))
+    ∙ taken_first TARGET (kept_at target_line_at) behind_targets t rest (ap (contains TARGET) (target_is t.kind q))
 
 line_of_target : Exchanges (form.◌>>=◌ (form.either layout_line triple_line) (λ i. form.gives (found i))) (pick (among tokens LAYOUT) layout_line_at triple_line_at >>= λ i. done (found i))
 line_of_target = seq (alt LAYOUT refl layout_line_exchanged triple_line_exchanged) (λ i. nothing (found i))
 
-unnamed_goes_on : (t : Tok) (rest : List Tok) (o : Result Found TokenFault) → is_target t.head ≡ true → unnamed_at (t ∷ rest) ≡ ends o (t ∷ rest) → ⊥
+unnamed_goes_on : (t : Tok) (rest : List Tok) (o : Result ParsedItem TokenFault) → is_target t.kind ≡ true → unnamed_at (t ∷ rest) ≡ ends o (t ∷ rest) → ⊥
 unnamed_goes_on t rest o q d =
     let p = placed_of line_of_target rest (t ∷ rest) o (sym (unnamed_read t rest q ∙ target_read t rest q) ∙ d) in
     omega (arith, ap length p.2, length-append p.0 p.1, p.3)
@@ -180,9 +180,9 @@ beside_exchanged befores.Item = alt_loosely META refl (metadata_there_exchanged 
 beside_exchanged befores.Declaration = alt_loosely META refl (metadata_there_exchanged befores.Declaration) (loosely (plainly_exchanged befores.Declaration))
 beside_exchanged befores.Name = alt_loosely META refl (metadata_there_exchanged befores.Name) (loosely (plainly_exchanged befores.Name))
 
-pub declare_exchanged : Exchanges (the heads.Declare) (the_at heads.Declare)
+pub declare_exchanged : Exchanges (the kinds.Declare) (the_at kinds.Declare)
 unfolding is_class
-declare_exchanged = plain_class heads.Declare (the_rule heads.Declare (word heads.Declare (codes "declare")) refl declare_real) refl
+declare_exchanged = plain_class kinds.Declare (the_rule kinds.Declare (word kinds.Declare (codes "declare")) refl declare_real) refl
 
 pub attached_before_exchanged : Exchanges attached_before attached_before_at
 unfolding attached_before attached_before_at
@@ -201,7 +201,7 @@ other_exchanged befores.Name names = value_loosely (at_place names) (beside_exch
 -- ---- pieces, with a name that is a number as one that begins a variable
 
 abbrev pub NUMBERED_NAME : List ℕ
-NUMBERED_NAME = number heads.NumberedGlobal ∷ []
+NUMBERED_NAME = number kinds.NumberedGlobal ∷ []
 
 abbrev ALL_NAMING : List ℕ
 ALL_NAMING = NUMBERED_NAME ++ NAMING
@@ -209,7 +209,7 @@ ALL_NAMING = NUMBERED_NAME ++ NAMING
 abbrev ALL_NAMES : List ℕ
 ALL_NAMES = NUMBERED_NAME ++ NAMES
 
-abbrev pub naming_with : ℕ → Reader Tok Found
+abbrev pub naming_with : ℕ → Reader Tok ParsedItem
 naming_with room = pick (among tokens ALL_NAMES) (kept_at variable_line_at) (pick (among tokens DECLARE) (declaration_at room) (kept_at (definition_at room)))
 
 abbrev pub named_with : ℕ → ℕ → Reader Tok (Option Item × Position)
@@ -239,7 +239,7 @@ within_exchanged room before names = alt_by in_definition ALL_NAMING (inl refl) 
 
 -- a number can't name a variable that isn't local
 pub numbered_is : (n : ℕ) → contains NUMBERED_NAME n ≡ true → name_refusal n ≡ Profile
-numbered_is n e = by_tests (nat_eq n (number heads.NumberedGlobal)) (nat_eq n (number heads.NumberedDefinition)) (refusal n) e
+numbered_is n e = by_tests (nat_eq n (number kinds.NumberedGlobal)) (nat_eq n (number kinds.NumberedDefinition)) (refusal n) e
   where
     by_tests : (a b : Bool) (k : TokenFault) → a || false ≡ true → cond (a || (b || false)) Profile k ≡ Profile
     by_tests true b k e = refl
@@ -247,7 +247,7 @@ numbered_is n e = by_tests (nat_eq n (number heads.NumberedGlobal)) (nat_eq n (n
 
 name_told : (t : Tok) (ts : List Tok) → among tokens NUMBERED_NAME t ≡ true → variable_name_at (t ∷ ts) ≡ fault_at Profile (t ∷ ts)
 unfolding is_valued
-name_told t ts e = ap (λ (b : Bool). token_means t ts (cond b (in_range (global_named t)) (Err (name_refusal (number t.head))))) (apart NUMBERED_NAME NAMES refl (number t.head) e) ∙ ap (λ (k : TokenFault). fault_at k (t ∷ ts)) (numbered_is (number t.head) e)
+name_told t ts e = ap (λ (b : Bool). token_means t ts (cond b (in_range (global_named t)) (Err (name_refusal (number t.kind))))) (apart NUMBERED_NAME NAMES refl (number t.kind) e) ∙ ap (λ (k : TokenFault). fault_at k (t ∷ ts)) (numbered_is (number t.kind) e)
 
 line_told : (t : Tok) (ts : List Tok) → among tokens NUMBERED_NAME t ≡ true → variable_line_at (t ∷ ts) ≡ fault_at Profile (t ∷ ts)
 unfolding variable_line_at
@@ -258,19 +258,19 @@ unfolding kept_at
 kept_line_told t ts e = then_refused variable_line_at _ Profile t ts (line_told t ts e)
 
 naming_told : (room : ℕ) (t : Tok) (ts : List Tok) → among tokens NUMBERED_NAME t ≡ true → naming_with room (t ∷ ts) ≡ fault_at Profile (t ∷ ts)
-naming_told room t ts e = taken_first ALL_NAMES (kept_at variable_line_at) (pick (among tokens DECLARE) (declaration_at room) (kept_at (definition_at room))) t ts (within_of NUMBERED_NAME ALL_NAMES refl (number t.head) e) ∙ kept_line_told t ts e
+naming_told room t ts e = taken_first ALL_NAMES (kept_at variable_line_at) (pick (among tokens DECLARE) (declaration_at room) (kept_at (definition_at room))) t ts (within_of NUMBERED_NAME ALL_NAMES refl (number t.kind) e) ∙ kept_line_told t ts e
 
 pub numbered_told : (room names : ℕ) (t : Tok) (ts : List Tok) → among tokens NUMBERED_NAME t ≡ true → named_with room names (t ∷ ts) ≡ fault_at Profile (t ∷ ts)
 numbered_told room names t ts e = then_refused (naming_with room) (λ x. done (at_place (names - 1) x)) Profile t ts (naming_told room t ts e)
 
 -- none stands for another that is a number
-unnumbered : (h : Head) (u : Tok) → among tokens (stands_for false h) u ≡ true → among tokens NUMBERED_NAME u ≡ false
-unnumbered heads.RefusedType u i = apart REG NUMBERED_NAME refl (number u.head) i
-unnumbered heads.Target u i = apart (REG ++ WORD) NUMBERED_NAME refl (number u.head) i
-unnumbered heads.RegisterInteger u i = apart MEMORY NUMBERED_NAME refl (number u.head) i
-unnumbered heads.NumberedGlobal u i = apart (number heads.Global ∷ []) NUMBERED_NAME refl (number u.head) i
-unnumbered heads.NumberedDefinition u i = apart (number heads.Global ∷ []) NUMBERED_NAME refl (number u.head) i
-unnumbered heads.Str u i = apart STRING NUMBERED_NAME refl (number u.head) i
+unnumbered : (h : TokenKind) (u : Tok) → among tokens (stands_for false h) u ≡ true → among tokens NUMBERED_NAME u ≡ false
+unnumbered kinds.RefusedType u i = apart REG NUMBERED_NAME refl (number u.kind) i
+unnumbered kinds.Target u i = apart (REG ++ WORD) NUMBERED_NAME refl (number u.kind) i
+unnumbered kinds.RegisterInteger u i = apart MEMORY NUMBERED_NAME refl (number u.kind) i
+unnumbered kinds.NumberedGlobal u i = apart (number kinds.Global ∷ []) NUMBERED_NAME refl (number u.kind) i
+unnumbered kinds.NumberedDefinition u i = apart (number kinds.Global ∷ []) NUMBERED_NAME refl (number u.kind) i
+unnumbered kinds.Str u i = apart STRING NUMBERED_NAME refl (number u.kind) i
 unnumbered h u i = absurd cc
 
 named_is_piece : (before : Before) (names : ℕ) (front : List Tok) (u : Tok) → Goes (any_named names) front u → Goes (any_piece before names) front u
@@ -289,29 +289,29 @@ module _ (room : ℕ) (before : Before) (names : ℕ) where
   abbrev whole_piece : Form Tok (Option Item × Position)
   whole_piece = any_piece before names
 
-  numbered_too : (t : Tok) → among tokens NUMBERED_NAME t ≡ true → IsTold false t.head (Stuck (named_with room names) []) (Goes (any_named names) []) → IsTold false t.head (Stuck (piece_with room before names) []) (Goes whole_piece [])
-  numbered_too t e n = by_head t.head e n
+  numbered_too : (t : Tok) → among tokens NUMBERED_NAME t ≡ true → IsTold false t.kind (Stuck (named_with room names) []) (Goes (any_named names) []) → IsTold false t.kind (Stuck (piece_with room before names) []) (Goes whole_piece [])
+  numbered_too t e n = by_head t.kind e n
     where
-      by_head : (h : Head) → contains NUMBERED_NAME (number h) ≡ true → IsTold false h (Stuck (named_with room names) []) (Goes (any_named names) []) → IsTold false h (Stuck (piece_with room before names) []) (Goes whole_piece [])
-      by_head heads.NumberedGlobal e (u, i, g) = (u, i, named_is_piece before names [] u g)
+      by_head : (h : TokenKind) → contains NUMBERED_NAME (number h) ≡ true → IsTold false h (Stuck (named_with room names) []) (Goes (any_named names) []) → IsTold false h (Stuck (piece_with room before names) []) (Goes whole_piece [])
+      by_head kinds.NumberedGlobal e (u, i, g) = (u, i, named_is_piece before names [] u g)
       by_head h e n = absurd cc
 
-  swap_numbered : (t : Tok) (rest : List Tok) (o : Result (Option Item × Position) TokenFault) → among tokens NUMBERED_NAME t ≡ true → named_with room names (t ∷ rest) ≡ ends o (t ∷ rest) → Outcome false in_definition whole_piece (piece_with room before names) [] t.head o
+  swap_numbered : (t : Tok) (rest : List Tok) (o : Result (Option Item × Position) TokenFault) → among tokens NUMBERED_NAME t ≡ true → named_with room names (t ∷ rest) ≡ ends o (t ∷ rest) → Outcome false in_definition whole_piece (piece_with room before names) [] t.kind o
   swap_numbered t rest o e d =
-      subst (λ (x : Result (Option Item × Position) TokenFault). Outcome false in_definition whole_piece (piece_with room before names) [] t.head x) (sym (end_is Profile o (t ∷ rest) (sym (numbered_told room names t rest e) ∙ d)))
+      subst (λ (x : Result (Option Item × Position) TokenFault). Outcome false in_definition whole_piece (piece_with room before names) [] t.kind x) (sym (end_is Profile o (t ∷ rest) (sym (numbered_told room names t rest e) ∙ d)))
       (numbered_too t e ((named_exchanged room names).swap [] t rest (Err Profile) (numbered_told room names t rest e)))
 
-  swap_piece : (front : List Tok) (t : Tok) (rest : List Tok) (o : Result (Option Item × Position) TokenFault) → piece_with room before names (front ++ t ∷ rest) ≡ ends o (t ∷ rest) → Outcome false in_definition whole_piece (piece_with room before names) front t.head o
+  swap_piece : (front : List Tok) (t : Tok) (rest : List Tok) (o : Result (Option Item × Position) TokenFault) → piece_with room before names (front ++ t ∷ rest) ≡ ends o (t ∷ rest) → Outcome false in_definition whole_piece (piece_with room before names) front t.kind o
   swap_piece [] t rest o d = by_test (among tokens NUMBERED_NAME t) refl d
     where
-      by_test : (b : Bool) → among tokens NUMBERED_NAME t ≡ b → cond b (named_with room names (t ∷ rest)) (within_at room before names (t ∷ rest)) ≡ ends o (t ∷ rest) → Outcome false in_definition whole_piece (piece_with room before names) [] t.head o
+      by_test : (b : Bool) → among tokens NUMBERED_NAME t ≡ b → cond b (named_with room names (t ∷ rest)) (within_at room before names (t ∷ rest)) ≡ ends o (t ∷ rest) → Outcome false in_definition whole_piece (piece_with room before names) [] t.kind o
       by_test true e d = swap_numbered t rest o e d
-      by_test false e d = outcome_too false false in_definition in_definition whole_piece whole_piece (within_at room before names) (piece_with room before names) false [] [] t.head o (λ e. e) (λ v. v) (λ u i rest'. sym (passed NUMBERED_NAME (named_with room names) (within_at room before names) u rest' (unnumbered t.head u i))) (λ u g. g) ((within_exchanged room before names).swap [] t rest o d)
+      by_test false e d = outcome_too false false in_definition in_definition whole_piece whole_piece (within_at room before names) (piece_with room before names) false [] [] t.kind o (λ e. e) (λ v. v) (λ u i rest'. sym (passed NUMBERED_NAME (named_with room names) (within_at room before names) u rest' (unnumbered t.kind u i))) (λ u g. g) ((within_exchanged room before names).swap [] t rest o d)
   swap_piece (v ∷ front) t rest o d = by_test (among tokens NUMBERED_NAME v) refl d
     where
-      by_test : (b : Bool) → among tokens NUMBERED_NAME v ≡ b → cond b (named_with room names (v ∷ (front ++ t ∷ rest))) (within_at room before names (v ∷ (front ++ t ∷ rest))) ≡ ends o (t ∷ rest) → Outcome false in_definition whole_piece (piece_with room before names) (v ∷ front) t.head o
-      by_test true e d = outcome_too false false in_definition in_definition (any_named names) whole_piece (named_with room names) (piece_with room before names) (is_angled (v ∷ front)) (v ∷ front) (v ∷ front) t.head o (λ e. e) (λ v. v) (λ u i rest'. sym (taken_first NUMBERED_NAME (named_with room names) (within_at room before names) v (front ++ u ∷ rest') e)) (λ u g. named_is_piece before names (v ∷ front) u g) ((named_exchanged room names).swap (v ∷ front) t rest o d)
-      by_test false e d = outcome_too false false in_definition in_definition whole_piece whole_piece (within_at room before names) (piece_with room before names) (is_angled (v ∷ front)) (v ∷ front) (v ∷ front) t.head o (λ e. e) (λ v. v) (λ u i rest'. sym (passed NUMBERED_NAME (named_with room names) (within_at room before names) v (front ++ u ∷ rest') e)) (λ u g. g) ((within_exchanged room before names).swap (v ∷ front) t rest o d)
+      by_test : (b : Bool) → among tokens NUMBERED_NAME v ≡ b → cond b (named_with room names (v ∷ (front ++ t ∷ rest))) (within_at room before names (v ∷ (front ++ t ∷ rest))) ≡ ends o (t ∷ rest) → Outcome false in_definition whole_piece (piece_with room before names) (v ∷ front) t.kind o
+      by_test true e d = outcome_too false false in_definition in_definition (any_named names) whole_piece (named_with room names) (piece_with room before names) (is_angled (v ∷ front)) (v ∷ front) (v ∷ front) t.kind o (λ e. e) (λ v. v) (λ u i rest'. sym (taken_first NUMBERED_NAME (named_with room names) (within_at room before names) v (front ++ u ∷ rest') e)) (λ u g. named_is_piece before names (v ∷ front) u g) ((named_exchanged room names).swap (v ∷ front) t rest o d)
+      by_test false e d = outcome_too false false in_definition in_definition whole_piece whole_piece (within_at room before names) (piece_with room before names) (is_angled (v ∷ front)) (v ∷ front) (v ∷ front) t.kind o (λ e. e) (λ v. v) (λ u i rest'. sym (passed NUMBERED_NAME (named_with room names) (within_at room before names) v (front ++ u ∷ rest') e)) (λ u g. g) ((within_exchanged room before names).swap (v ∷ front) t rest o d)
 
   sound_piece : (ts rest : List Tok) (x : Option Item × Position) → piece_with room before names ts ≡ Ok (x, rest) → (front : List Tok) × (ts ≡ front ++ rest) × whole_piece front x
   sound_piece [] rest x d = (within_exchanged room before names).sound [] rest x d
@@ -379,7 +379,7 @@ unfolding form.◌>>=◌
 behind_item at one two x s (p, q, is, e, r, v) = (one ++ p, q, x.0 ∷ is, ap (λ (ts : List Tok). one ++ ts) e ∙ sym (append_assoc one p q), (one, p, x.1, refl, s, r), v)
 
 -- a number and a brace begin none
-starts_steady : (before : Before) → disjoint (number heads.Number ∷ OPEN_BRACE) (STARTS before) ≡ true
+starts_steady : (before : Before) → disjoint (number kinds.Number ∷ OPEN_BRACE) (STARTS before) ≡ true
 starts_steady befores.Item = refl
 starts_steady befores.Declaration = refl
 starts_steady befores.Name = refl

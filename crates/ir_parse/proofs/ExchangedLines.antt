@@ -1,10 +1,10 @@
 -- The readers of lines tell a token that is left out in some places where one that it stands for goes on.
 use Rattle.std.proofs.Common.{◌≡◌, nat_eq, Bool, true, false, cond, Some, None, List, [], ◌∷◌, Result, Ok, Err, refl, sym, ap, subst, ◌∙◌, inl, inr}
 use Rattle.std.specs.Prelude.{codes}
-use Rattle.ir_lex.specs.Heads.{number}
+use Rattle.ir_lex.specs.TokenKinds.{number}
 use Rattle.ir_lex.specs.Tok.{Tok}
-use Rattle.ir_lex.specs.declared.head.Head.TheVariants as heads
-use Rattle.ir_lex.specs.declared.head.Head.{Head}
+use Rattle.ir_lex.specs.declared.token_kind.TokenKind.TheVariants as kinds
+use Rattle.ir_lex.specs.declared.token_kind.TokenKind.{TokenKind}
 use Rattle.ir_read.specs.Alphabet.{among, contains}
 use Rattle.ir_read.specs.Forms as form
 use Rattle.ir_read.specs.Rules.{is_among, is_class}
@@ -64,7 +64,7 @@ operation_exchanged operations.Freeze = freezing_exchanged
 
 -- a lifetime marker is told against the syntax as the callee of a void call that has a name
 abbrev pub behind_place : Bool → Opcode → Place
-behind_place true opcodes.Tail = form.◌>>=◌ (the heads.Call) (λ _. before_callee)
+behind_place true opcodes.Tail = form.◌>>=◌ (the kinds.Call) (λ _. before_callee)
 behind_place true opcodes.Call = before_callee
 behind_place named o = nowhere
 
@@ -90,50 +90,50 @@ behind_exchanged named opcodes.Call = calling_exchanged named
 
 -- [tail] call, by its first word
 abbrev call_place : Place
-call_place = form.◌>>=◌ (form.optional (the heads.TailMark)) (λ _. form.◌>>=◌ (the heads.Call) (λ _. before_callee))
+call_place = form.◌>>=◌ (form.optional (the kinds.TailMark)) (λ _. form.◌>>=◌ (the kinds.Call) (λ _. before_callee))
 
 opcode_place : (t : Tok) (ts : List Tok) → among tokens GIVING t ≡ true → behind_place true (opcode_of t) ts tt → call_place (t ∷ ts) tt
 unfolding is_class form.◌>>=◌ form.either
-opcode_place t ts e v = by_head t.head refl e v
+opcode_place t ts e v = by_head t.kind refl e v
   where
-    is_mark : (h : Head) → t.head ≡ h → nat_eq (number h) (number heads.TailMark) ≡ true → the heads.TailMark (t ∷ []) tt
-    is_mark h p q = ap (λ (k : Head). cond (nat_eq (number k) (number heads.TailMark)) (fine tt) (failed (refusal (number k)))) p ∙ ap (λ (b : Bool). cond b (fine tt) (failed (refusal (number h)))) q
+    is_mark : (h : TokenKind) → t.kind ≡ h → nat_eq (number h) (number kinds.TailMark) ≡ true → the kinds.TailMark (t ∷ []) tt
+    is_mark h p q = ap (λ (k : TokenKind). cond (nat_eq (number k) (number kinds.TailMark)) (fine tt) (failed (refusal (number k)))) p ∙ ap (λ (b : Bool). cond b (fine tt) (failed (refusal (number h)))) q
 
-    is_call : (h : Head) → t.head ≡ h → nat_eq (number h) (number heads.Call) ≡ true → the heads.Call (t ∷ []) tt
-    is_call h p q = ap (λ (k : Head). cond (nat_eq (number k) (number heads.Call)) (fine tt) (failed (refusal (number k)))) p ∙ ap (λ (b : Bool). cond b (fine tt) (failed (refusal (number h)))) q
+    is_call : (h : TokenKind) → t.kind ≡ h → nat_eq (number h) (number kinds.Call) ≡ true → the kinds.Call (t ∷ []) tt
+    is_call h p q = ap (λ (k : TokenKind). cond (nat_eq (number k) (number kinds.Call)) (fine tt) (failed (refusal (number k)))) p ∙ ap (λ (b : Bool). cond b (fine tt) (failed (refusal (number h)))) q
 
-    marked : the heads.TailMark (t ∷ []) tt → form.◌>>=◌ (the heads.Call) (λ _. before_callee) ts tt → call_place (t ∷ ts) tt
+    marked : the kinds.TailMark (t ∷ []) tt → form.◌>>=◌ (the kinds.Call) (λ _. before_callee) ts tt → call_place (t ∷ ts) tt
     marked s v = (t ∷ [], ts, Some tt, refl, inl (t ∷ [], [], tt, refl, s, (refl, refl)), v)
 
-    plainly : the heads.Call (t ∷ []) tt → before_callee ts tt → call_place (t ∷ ts) tt
+    plainly : the kinds.Call (t ∷ []) tt → before_callee ts tt → call_place (t ∷ ts) tt
     plainly s v = ([], t ∷ ts, None, refl, inr (refl, refl), (t ∷ [], ts, tt, refl, s, v))
 
-    by_head : (h : Head) → t.head ≡ h → contains GIVING (number h) ≡ true → behind_place true (opcode_by h) ts tt → call_place (t ∷ ts) tt
-    by_head heads.TailMark p e v = marked (is_mark heads.TailMark p refl) v
-    by_head heads.Call p e v = plainly (is_call heads.Call p refl) v
-    by_head heads.Add p e v = absurd v
-    by_head heads.Sub p e v = absurd v
-    by_head heads.Mul p e v = absurd v
-    by_head heads.Shl p e v = absurd v
-    by_head heads.Udiv p e v = absurd v
-    by_head heads.Sdiv p e v = absurd v
-    by_head heads.Lshr p e v = absurd v
-    by_head heads.Ashr p e v = absurd v
-    by_head heads.Urem p e v = absurd v
-    by_head heads.Srem p e v = absurd v
-    by_head heads.And p e v = absurd v
-    by_head heads.Xor p e v = absurd v
-    by_head heads.Or p e v = absurd v
-    by_head heads.Icmp p e v = absurd v
-    by_head heads.Zext p e v = absurd v
-    by_head heads.Sext p e v = absurd v
-    by_head heads.Trunc p e v = absurd v
-    by_head heads.Select p e v = absurd v
-    by_head heads.Freeze p e v = absurd v
-    by_head heads.Phi p e v = absurd v
-    by_head heads.Alloca p e v = absurd v
-    by_head heads.Load p e v = absurd v
-    by_head heads.GetElementPtr p e v = absurd v
+    by_head : (h : TokenKind) → t.kind ≡ h → contains GIVING (number h) ≡ true → behind_place true (opcode_by h) ts tt → call_place (t ∷ ts) tt
+    by_head kinds.TailMark p e v = marked (is_mark kinds.TailMark p refl) v
+    by_head kinds.Call p e v = plainly (is_call kinds.Call p refl) v
+    by_head kinds.Add p e v = absurd v
+    by_head kinds.Sub p e v = absurd v
+    by_head kinds.Mul p e v = absurd v
+    by_head kinds.Shl p e v = absurd v
+    by_head kinds.Udiv p e v = absurd v
+    by_head kinds.Sdiv p e v = absurd v
+    by_head kinds.Lshr p e v = absurd v
+    by_head kinds.Ashr p e v = absurd v
+    by_head kinds.Urem p e v = absurd v
+    by_head kinds.Srem p e v = absurd v
+    by_head kinds.And p e v = absurd v
+    by_head kinds.Xor p e v = absurd v
+    by_head kinds.Or p e v = absurd v
+    by_head kinds.Icmp p e v = absurd v
+    by_head kinds.Zext p e v = absurd v
+    by_head kinds.Sext p e v = absurd v
+    by_head kinds.Trunc p e v = absurd v
+    by_head kinds.Select p e v = absurd v
+    by_head kinds.Freeze p e v = absurd v
+    by_head kinds.Phi p e v = absurd v
+    by_head kinds.Alloca p e v = absurd v
+    by_head kinds.Load p e v = absurd v
+    by_head kinds.GetElementPtr p e v = absurd v
     by_head h p e v = absurd (differ e)
 
 abbrev behind_equals : Place
@@ -148,13 +148,13 @@ giving_place front (t ∷ [], two, o, e, s, v) = by_test (among tokens GIVING t)
     opcode_is : (o o' : Opcode) → good o ≡ good o' → o ≡ o'
     opcode_is o o' q = cc
 
-    by_test : (b : Bool) → among tokens GIVING t ≡ b → cond b (good (opcode_of t)) (Err (refusal (number t.head))) ≡ good o → call_place front tt
+    by_test : (b : Bool) → among tokens GIVING t ≡ b → cond b (good (opcode_of t)) (Err (refusal (number t.kind))) ≡ good o → call_place front tt
     by_test true q s = subst (λ (ts : List Tok). call_place ts tt) (sym e) (opcode_place t two q (subst (λ (x : Opcode). behind_place true x two tt) (sym (opcode_is (opcode_of t) o s)) v))
     by_test false q s = absurd cc
 
-pub line_behind_exchanged : (name : Tok) → Swapping true (form.◌>>=◌ (the heads.Equals) (λ _. call_place)) (line_behind any_slots any_shape name) (line_behind_at name)
+pub line_behind_exchanged : (name : Tok) → Swapping true (form.◌>>=◌ (the kinds.Equals) (λ _. call_place)) (line_behind any_slots any_shape name) (line_behind_at name)
 unfolding line_behind line_behind_at
-line_behind_exchanged name = seq_to equals_exchanged (λ _. placed_too call_place giving_place (seq_to (one_sample GIVING opcode_of (word heads.Add (codes "add")) refl add_real refl) (λ o. with_value (λ i. lined (Some name) name.line i) (behind_exchanged true o))))
+line_behind_exchanged name = seq_to equals_exchanged (λ _. placed_too call_place giving_place (seq_to (one_sample GIVING opcode_of (word kinds.Add (codes "add")) refl add_real refl) (λ o. with_value (λ i. lined (Some name) name.line i) (behind_exchanged true o))))
 
 pub named_line_exchanged : Swapping true before_named_callee (named_line any_local any_slots any_shape) named_line_at
 unfolding named_line named_line_at before_named_callee
@@ -172,7 +172,7 @@ unnamed_place opcodes.Call front v = v
 
 pub plain_line_exchanged : Exchanging true (plain_line any_slots any_shape) plain_line_at
 unfolding plain_line plain_line_at
-plain_line_exchanged = seq_into (one_sample OPCODES begun_of (word heads.Add (codes "add")) refl add_real refl) (λ b. with_value (λ i. lined None b.line i) (placed_too nowhere (unnamed_place b.opcode) (behind_exchanged false b.opcode)))
+plain_line_exchanged = seq_into (one_sample OPCODES begun_of (word kinds.Add (codes "add")) refl add_real refl) (λ b. with_value (λ i. lined None b.line i) (placed_too nowhere (unnamed_place b.opcode) (behind_exchanged false b.opcode)))
 
 pub line_exchanged : Swapping true before_named_callee (line any_local any_slots any_shape) line_at
 unfolding line line_at

@@ -1,10 +1,10 @@
 -- The readers of metadata that may stand behind a declaration tell a token that is left out in some places against the syntax.
 use Rattle.std.proofs.Common.{◌∷◌, Result, ◌≡◌, ℕ, Bool, true, false, cond, List, [], Ok, Err, refl}
 use Rattle.std.specs.Prelude.{codes}
-use Rattle.ir_lex.specs.Heads.{number}
+use Rattle.ir_lex.specs.TokenKinds.{number}
 use Rattle.ir_lex.specs.Tok.{Tok}
-use Rattle.ir_lex.specs.declared.head.Head.TheVariants as heads
-use Rattle.ir_lex.specs.declared.token.Kind.TheVariants as kinds
+use Rattle.ir_lex.specs.declared.token_kind.TokenKind.TheVariants as kinds
+use Rattle.ir_lex.specs.declared.token.TokenForm.TheVariants as forms
 use Rattle.ir_read.proofs.Rules.{apart_from}
 use Rattle.ir_read.specs.Alphabet.{among, contains}
 use Rattle.ir_read.specs.Forms as form
@@ -30,21 +30,21 @@ use Rattle.ir_parse.proofs.ExchangedTokens.{elsewhere_sample, one_sample}
 use Rattle.ir_parse.proofs.ExchangedWords.{meta_exchanged}
 
 -- what goes on a line may be any token but some, and closes no bracket
-goes_on_never : (apart : List ℕ) → disjoint apart TELLING ≡ true → (t : Tok) (k : TokenFault) → line_goes_on apart t ≡ Err k → contains TELLING (number t.head) ≡ true → ⊥
+goes_on_never : (apart : List ℕ) → disjoint apart TELLING ≡ true → (t : Tok) (k : TokenFault) → line_goes_on apart t ≡ Err k → contains TELLING (number t.kind) ≡ true → ⊥
 unfolding line_goes_on
 goes_on_never apart d t k e i = by_test (among tokens apart t) refl e
   where
     by_step : (p : Step (List Bracket)) → line_step [] t ≡ p → fitting p ≡ Err k → ⊥
-    by_step bad q e = stays_in_line [] t (telling_stays t.head i) q
+    by_step bad q e = stays_in_line [] t (telling_stays t.kind i) q
     by_step last q e = cc
     by_step (onward bs) q e = cc
 
     by_test : (b : Bool) → among tokens apart t ≡ b → cond b (Err Syntax) (fitting (line_step [] t)) ≡ Err k → ⊥
-    by_test true p e = apart_from apart TELLING d (number t.head) p i
+    by_test true p e = apart_from apart TELLING d (number t.kind) p i
     by_test false p e = by_step (line_step [] t) refl e
 
 abbrev one : Tok
-one = sample kinds.Number heads.Number (codes "1")
+one = sample forms.Number kinds.Number (codes "1")
 
 one_goes_on : line_goes_on META one ≡ Ok (onward [])
 unfolding line_goes_on
@@ -65,7 +65,7 @@ line_rest_exchanged bad = loosely (nothing tt)
 line_rest_exchanged last = loosely (nothing tt)
 line_rest_exchanged (onward bs) = line_exchanged bs
 
-line_rest_after : (s : Step (List Bracket)) (t : Tok) (rest : List Tok) (o : Result (Unit {0}) TokenFault) → line_rest_at s (t ∷ rest) ≡ ends o (t ∷ rest) → OutcomeAt false nowhere (line_rest s) (line_rest_at s) true [] t.head o
+line_rest_after : (s : Step (List Bracket)) (t : Tok) (rest : List Tok) (o : Result (Unit {0}) TokenFault) → line_rest_at s (t ∷ rest) ≡ ends o (t ∷ rest) → OutcomeAt false nowhere (line_rest s) (line_rest_at s) true [] t.kind o
 line_rest_after bad t rest o d = nothing_after tt t rest o d
 line_rest_after last t rest o d = nothing_after tt t rest o d
 line_rest_after (onward bs) t rest o d = line_after bs t rest o d
@@ -96,7 +96,7 @@ behind_mark_exchanged ends = alt_loosely CURLY refl (loosely (seq (group_exchang
 
 pub marked_exchanged : Swaps false true nowhere marked marked_at
 unfolding marked marked_at
-marked_exchanged = seq_loosely (one_sample BANG ends_line (sample kinds.Meta heads.Bang (codes "!")) refl bang_real refl) behind_mark_exchanged
+marked_exchanged = seq_loosely (one_sample BANG ends_line (sample forms.Meta kinds.Bang (codes "!")) refl bang_real refl) behind_mark_exchanged
 
 pub node_yet_exchanged : Swaps false true nowhere node_yet node_yet_at
 unfolding node_yet node_yet_at
@@ -112,4 +112,4 @@ behind_name_exchanged false = node_or_line_exchanged
 
 pub metadata_behind_exchanged : Swaps false true nowhere metadata_behind metadata_behind_at
 unfolding metadata_behind metadata_behind_at
-metadata_behind_exchanged = seq_loosely (one_sample META ends_line (sample kinds.Meta heads.Meta (codes "!a")) refl meta_real refl) behind_name_exchanged
+metadata_behind_exchanged = seq_loosely (one_sample META ends_line (sample forms.Meta kinds.Meta (codes "!a")) refl meta_real refl) behind_name_exchanged

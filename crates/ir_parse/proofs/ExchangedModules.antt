@@ -2,10 +2,10 @@
 use Rattle.std.proofs.Common.{◌≡◌, ℕ, zero, suc, ◌<◌, ◌-◌, nat_eq, Bool, true, false, cond, Option, ◌||◌, not, List, [], ◌∷◌, ◌++◌, length, Result, Ok, Err, refl, sym, ap, subst, ◌∙◌, append_assoc, arith, ◌⊎◌, inl, inr}
 use Rattle.std.proofs.lemmas.List.{append-nil, length-append}
 use Rattle.std.specs.List.{fold}
-use Rattle.ir_lex.specs.Heads.{number}
+use Rattle.ir_lex.specs.TokenKinds.{number}
 use Rattle.ir_lex.specs.Tok.{Tok}
-use Rattle.ir_lex.specs.declared.head.Head.TheVariants as heads
-use Rattle.ir_lex.specs.declared.head.Head.{Head}
+use Rattle.ir_lex.specs.declared.token_kind.TokenKind.TheVariants as kinds
+use Rattle.ir_lex.specs.declared.token_kind.TokenKind.{TokenKind}
 use Rattle.ir_read.proofs.Composed.{cons_is, cut_is, reads, reads_is, wrong, wrong_is}
 use Rattle.ir_read.proofs.Rules.{within_of}
 use Rattle.ir_read.specs.Alphabet.{among, contains}
@@ -56,7 +56,7 @@ both e = cc
 
 -- without a name that is a number
 unnumbered : (bs : List ℕ) (n : ℕ) → contains NUMBERED_NAME n ≡ false → contains (NUMBERED_NAME ++ bs) n ≡ contains bs n
-unnumbered bs n e = by_test (nat_eq n (number heads.NumberedGlobal)) e
+unnumbered bs n e = by_test (nat_eq n (number kinds.NumberedGlobal)) e
   where
     by_test : (b : Bool) → b || false ≡ false → b || contains bs n ≡ contains bs n
     by_test true e = absurd cc
@@ -64,7 +64,7 @@ unnumbered bs n e = by_test (nat_eq n (number heads.NumberedGlobal)) e
 
 module _ (room : ℕ) where
   naming_same : (t : Tok) (ts : List Tok) → among tokens NUMBERED_NAME t ≡ false → naming_with room (t ∷ ts) ≡ naming_at room (t ∷ ts)
-  naming_same t ts e = ap (λ (b : Bool). cond b (kept_at variable_line_at (t ∷ ts)) (pick (among tokens DECLARE) (declaration_at room) (kept_at (definition_at room)) (t ∷ ts))) (unnumbered NAMES (number t.head) e)
+  naming_same t ts e = ap (λ (b : Bool). cond b (kept_at variable_line_at (t ∷ ts)) (pick (among tokens DECLARE) (declaration_at room) (kept_at (definition_at room)) (t ∷ ts))) (unnumbered NAMES (number t.kind) e)
 
   named_same : (names : ℕ) (t : Tok) (ts : List Tok) → among tokens NUMBERED_NAME t ≡ false → named_with room names (t ∷ ts) ≡ named_at room names (t ∷ ts)
   unfolding named_at
@@ -78,41 +78,41 @@ module _ (room : ℕ) where
   unfolding piece_at
   piece_same before names t ts e =
       passed NUMBERED_NAME (named_with room names) (within_at room before names) t ts e
-      ∙ ap (λ (b : Bool). cond b (cond (nat_eq names 0) (fault_at Limit) (named_with room names) (t ∷ ts)) (other_at before names (t ∷ ts))) (unnumbered NAMING (number t.head) e)
+      ∙ ap (λ (b : Bool). cond b (cond (nat_eq names 0) (fault_at Limit) (named_with room names) (t ∷ ts)) (other_at before names (t ∷ ts))) (unnumbered NAMING (number t.kind) e)
       ∙ ap (λ r. cond (among tokens NAMING t) r (other_at before names (t ∷ ts))) (named_within_same names t ts (nat_eq names 0) e)
 
   -- ---- what else is told there
 
-  beside_refuses : (before : Before) (t : Tok) (ts : List Tok) → plainly_at before (t ∷ ts) ≡ fault_at (refusal (number t.head)) (t ∷ ts) → contains TYPES (number t.head) ≡ true → beside_at before (t ∷ ts) ≡ fault_at (refusal (number t.head)) (t ∷ ts)
+  beside_refuses : (before : Before) (t : Tok) (ts : List Tok) → plainly_at before (t ∷ ts) ≡ fault_at (refusal (number t.kind)) (t ∷ ts) → contains TYPES (number t.kind) ≡ true → beside_at before (t ∷ ts) ≡ fault_at (refusal (number t.kind)) (t ∷ ts)
   unfolding beside_at
-  beside_refuses before t ts d e = passed META (metadata_there_at before) (plainly_at before) t ts (apart TYPES META refl (number t.head) e) ∙ d
+  beside_refuses before t ts d e = passed META (metadata_there_at before) (plainly_at before) t ts (apart TYPES META refl (number t.kind) e) ∙ d
 
-  other_refuses : (before : Before) (names : ℕ) (t : Tok) (ts : List Tok) → plainly_at before (t ∷ ts) ≡ fault_at (refusal (number t.head)) (t ∷ ts) → contains TYPES (number t.head) ≡ true → other_at before names (t ∷ ts) ≡ fault_at (refusal (number t.head)) (t ∷ ts)
+  other_refuses : (before : Before) (names : ℕ) (t : Tok) (ts : List Tok) → plainly_at before (t ∷ ts) ≡ fault_at (refusal (number t.kind)) (t ∷ ts) → contains TYPES (number t.kind) ≡ true → other_at before names (t ∷ ts) ≡ fault_at (refusal (number t.kind)) (t ∷ ts)
   unfolding other_at
   other_refuses before names t ts d e = ap (λ r. follow r (λ x. done (at_place names x))) (beside_refuses before t ts d e)
 
   plain_name : (n : ℕ) → contains TYPES n ≡ true → refusal n ≡ name_refusal n
   plain_name n e = sym (ap (λ (b : Bool). cond b Profile (refusal n)) (apart TYPES NUMBERED refl n e))
 
-  type_refuses : (before : Before) (names : ℕ) (t : Tok) (ts : List Tok) → plainly_at before (t ∷ ts) ≡ fault_at (refusal (number t.head)) (t ∷ ts) → contains TYPES (number t.head) ≡ true → piece_with room before names (t ∷ ts) ≡ fault_at (item_refusal t) (t ∷ ts)
+  type_refuses : (before : Before) (names : ℕ) (t : Tok) (ts : List Tok) → plainly_at before (t ∷ ts) ≡ fault_at (refusal (number t.kind)) (t ∷ ts) → contains TYPES (number t.kind) ≡ true → piece_with room before names (t ∷ ts) ≡ fault_at (item_refusal t) (t ∷ ts)
   type_refuses before names t ts d e =
-      passed NUMBERED_NAME (named_with room names) (within_at room before names) t ts (apart TYPES NUMBERED_NAME refl (number t.head) e)
-      ∙ passed (NUMBERED_NAME ++ NAMING) (cond (nat_eq names 0) (fault_at Limit) (named_with room names)) (other_at before names) t ts (apart TYPES (NUMBERED_NAME ++ NAMING) refl (number t.head) e)
-      ∙ other_refuses before names t ts d e ∙ ap (λ (k : TokenFault). fault_at k (t ∷ ts)) (plain_name (number t.head) e)
+      passed NUMBERED_NAME (named_with room names) (within_at room before names) t ts (apart TYPES NUMBERED_NAME refl (number t.kind) e)
+      ∙ passed (NUMBERED_NAME ++ NAMING) (cond (nat_eq names 0) (fault_at Limit) (named_with room names)) (other_at before names) t ts (apart TYPES (NUMBERED_NAME ++ NAMING) refl (number t.kind) e)
+      ∙ other_refuses before names t ts d e ∙ ap (λ (k : TokenFault). fault_at k (t ∷ ts)) (plain_name (number t.kind) e)
 
-  number_refuses : (before : Before) (names : ℕ) (t : Tok) (ts : List Tok) → contains NUMBERED_NAME (number t.head) ≡ true → piece_with room before names (t ∷ ts) ≡ fault_at (item_refusal t) (t ∷ ts)
+  number_refuses : (before : Before) (names : ℕ) (t : Tok) (ts : List Tok) → contains NUMBERED_NAME (number t.kind) ≡ true → piece_with room before names (t ∷ ts) ≡ fault_at (item_refusal t) (t ∷ ts)
   number_refuses before names t ts e =
-      taken_first NUMBERED_NAME (named_with room names) (within_at room before names) t ts e ∙ numbered_told room names t ts e ∙ ap (λ (k : TokenFault). fault_at k (t ∷ ts)) (sym (numbered_is (number t.head) e))
+      taken_first NUMBERED_NAME (named_with room names) (within_at room before names) t ts e ∙ numbered_told room names t ts e ∙ ap (λ (k : TokenFault). fault_at k (t ∷ ts)) (sym (numbered_is (number t.kind) e))
 
-  extra_told : (before : Before) (names : ℕ) (t : Tok) (ts : List Tok) → contains (STARTS before) (number t.head) ≡ true → contains (beginnings before) (number t.head) ≡ false → piece_with room before names (t ∷ ts) ≡ fault_at (item_refusal t) (t ∷ ts)
-  extra_told befores.Declaration names t ts s b = elim (split NUMBERED_NAME (HEAD ++ ITEM) (number t.head) s) [ inl e ↦ number_refuses befores.Declaration names t ts e | inr e ↦ absurd (both (sym e ∙ b)) ]
-  extra_told befores.Item names t ts s b = elim (split NUMBERED_NAME (TYPES ++ ITEM) (number t.head) s) [
+  extra_told : (before : Before) (names : ℕ) (t : Tok) (ts : List Tok) → contains (STARTS before) (number t.kind) ≡ true → contains (beginnings before) (number t.kind) ≡ false → piece_with room before names (t ∷ ts) ≡ fault_at (item_refusal t) (t ∷ ts)
+  extra_told befores.Declaration names t ts s b = elim (split NUMBERED_NAME (HEAD ++ ITEM) (number t.kind) s) [ inl e ↦ number_refuses befores.Declaration names t ts e | inr e ↦ absurd (both (sym e ∙ b)) ]
+  extra_told befores.Item names t ts s b = elim (split NUMBERED_NAME (TYPES ++ ITEM) (number t.kind) s) [
     | inl e ↦ number_refuses befores.Item names t ts e
-    | inr r ↦ elim (split TYPES ITEM (number t.head) r) [ inl e ↦ type_refuses befores.Item names t ts (unnamed_refuses t ts e) e | inr e ↦ absurd (both (sym e ∙ b)) ]
+    | inr r ↦ elim (split TYPES ITEM (number t.kind) r) [ inl e ↦ type_refuses befores.Item names t ts (unnamed_refuses t ts e) e | inr e ↦ absurd (both (sym e ∙ b)) ]
   ]
-  extra_told befores.Name names t ts s b = elim (split NUMBERED_NAME (TYPES ++ ITEM) (number t.head) s) [
+  extra_told befores.Name names t ts s b = elim (split NUMBERED_NAME (TYPES ++ ITEM) (number t.kind) s) [
     | inl e ↦ number_refuses befores.Name names t ts e
-    | inr r ↦ elim (split TYPES ITEM (number t.head) r) [ inl e ↦ type_refuses befores.Name names t ts (unnamed_refuses t ts e) e | inr e ↦ absurd (both (sym e ∙ b)) ]
+    | inr r ↦ elim (split TYPES ITEM (number t.kind) r) [ inl e ↦ type_refuses befores.Name names t ts (unnamed_refuses t ts e) e | inr e ↦ absurd (both (sym e ∙ b)) ]
   ]
 
   no_number : (before : Before) (n : ℕ) → contains (beginnings before) n ≡ true → contains NUMBERED_NAME n ≡ false
@@ -151,7 +151,7 @@ module _ (room : ℕ) where
   items_same : (n : ℕ) (at : Position) (ts : List Tok) (k : List (Option Item) → List Item) → length ts < n → finished k (all_within n at ts) ≡ finished k (items_within n at ts)
   items_same zero at ts k lt = absurd (omega (arith, lt))
   items_same (suc n) at [] k lt = refl
-  items_same (suc n) at (t ∷ ts) k lt = by_test (λ next mid k' lt'. items_same n next mid k' lt') (contains (beginnings at.before) (number t.head)) refl
+  items_same (suc n) at (t ∷ ts) k lt = by_test (λ next mid k' lt'. items_same n next mid k' lt') (contains (beginnings at.before) (number t.kind)) refl
     where
       Again : Type 0
       Again = (next : Position) (mid : List Tok) (k' : List (Option Item) → List Item) → length mid < n → finished k' (all_within n next mid) ≡ finished k' (items_within n next mid)
@@ -161,19 +161,19 @@ module _ (room : ℕ) where
       by_piece again (Ok x) q =
           finished_in k x.0.0 (all_within n x.0.1 x.1) ∙ again x.0.1 x.1 (λ m. k (x.0.0 ∷ m)) (omega (arith, lt, shorter at (t ∷ ts) x q)) ∙ sym (finished_in k x.0.0 (items_within n x.0.1 x.1))
 
-      by_start : (b : Bool) → contains (STARTS at.before) (number t.head) ≡ b → contains (beginnings at.before) (number t.head) ≡ false → finished k (cond (not b) (reads [] (t ∷ ts)) (follow (piece_there room at (t ∷ ts)) (λ x. all_within n x.1 >>= λ more. done (x.0 ∷ more)))) ≡ finished k (reads [] (t ∷ ts))
+      by_start : (b : Bool) → contains (STARTS at.before) (number t.kind) ≡ b → contains (beginnings at.before) (number t.kind) ≡ false → finished k (cond (not b) (reads [] (t ∷ ts)) (follow (piece_there room at (t ∷ ts)) (λ x. all_within n x.1 >>= λ more. done (x.0 ∷ more)))) ≡ finished k (reads [] (t ∷ ts))
       by_start true q e = ap (λ (r : Result ((Option Item × Position) × List Tok) Fault). finished k (follow r (λ x. all_within n x.1 >>= λ more. done (x.0 ∷ more)))) (extra_told at.before at.names t ts q e)
       by_start false q e = refl
 
-      by_test : Again → (b : Bool) → contains (beginnings at.before) (number t.head) ≡ b
-          → finished k (cond (not (contains (STARTS at.before) (number t.head))) (reads [] (t ∷ ts)) (follow (piece_there room at (t ∷ ts)) (λ x. all_within n x.1 >>= λ more. done (x.0 ∷ more)))) ≡ finished k (cond (not (contains (beginnings at.before) (number t.head))) (reads [] (t ∷ ts)) (follow (there_at room at (t ∷ ts)) (λ x. items_within n x.1 >>= λ more. done (x.0 ∷ more))))
+      by_test : Again → (b : Bool) → contains (beginnings at.before) (number t.kind) ≡ b
+          → finished k (cond (not (contains (STARTS at.before) (number t.kind))) (reads [] (t ∷ ts)) (follow (piece_there room at (t ∷ ts)) (λ x. all_within n x.1 >>= λ more. done (x.0 ∷ more)))) ≡ finished k (cond (not (contains (beginnings at.before) (number t.kind))) (reads [] (t ∷ ts)) (follow (there_at room at (t ∷ ts)) (λ x. items_within n x.1 >>= λ more. done (x.0 ∷ more))))
       by_test again true e =
-          ap (λ (b : Bool). finished k (cond (not b) (reads [] (t ∷ ts)) (follow (piece_there room at (t ∷ ts)) (λ x. all_within n x.1 >>= λ more. done (x.0 ∷ more))))) (starts_too at.before (number t.head) e)
+          ap (λ (b : Bool). finished k (cond (not b) (reads [] (t ∷ ts)) (follow (piece_there room at (t ∷ ts)) (λ x. all_within n x.1 >>= λ more. done (x.0 ∷ more))))) (starts_too at.before (number t.kind) e)
           ∙ by_piece again (piece_there room at (t ∷ ts)) refl
-          ∙ ap (λ (r : Result ((Option Item × Position) × List Tok) Fault). finished k (follow r (λ x. items_within n x.1 >>= λ more. done (x.0 ∷ more)))) (piece_same at.before at.names t ts (no_number at.before (number t.head) e))
+          ∙ ap (λ (r : Result ((Option Item × Position) × List Tok) Fault). finished k (follow r (λ x. items_within n x.1 >>= λ more. done (x.0 ∷ more)))) (piece_same at.before at.names t ts (no_number at.before (number t.kind) e))
           ∙ sym (ap (λ (b : Bool). finished k (cond (not b) (reads [] (t ∷ ts)) (follow (there_at room at (t ∷ ts)) (λ x. items_within n x.1 >>= λ more. done (x.0 ∷ more))))) e)
       by_test again false e =
-          by_start (contains (STARTS at.before) (number t.head)) refl e
+          by_start (contains (STARTS at.before) (number t.kind)) refl e
           ∙ sym (ap (λ (b : Bool). finished k (cond (not b) (reads [] (t ∷ ts)) (follow (there_at room at (t ∷ ts)) (λ x. items_within n x.1 >>= λ more. done (x.0 ∷ more))))) e)
 
   somewhere_starts : (before : Before) (n : ℕ) → contains STAND_INS n ≡ true → contains (STARTS before) n ≡ true
@@ -181,15 +181,15 @@ module _ (room : ℕ) where
   somewhere_starts befores.Declaration n e = within_of STAND_INS (STARTS befores.Declaration) refl n e
   somewhere_starts befores.Name n e = within_of STAND_INS (STARTS befores.Name) refl n e
 
-  never_stops : (at : Position) (t : Tok) (rest : List Tok) → stops_here anywhere starts_there at (t ∷ rest) ≡ true → contains STAND_INS (number t.head) ≡ true → ⊥
-  never_stops at t rest q e = stopped (contains (STARTS at.before) (number t.head)) (somewhere_starts at.before (number t.head) e) q
+  never_stops : (at : Position) (t : Tok) (rest : List Tok) → stops_here anywhere starts_there at (t ∷ rest) ≡ true → contains STAND_INS (number t.kind) ≡ true → ⊥
+  never_stops at t rest q e = stopped (contains (STARTS at.before) (number t.kind)) (somewhere_starts at.before (number t.kind) e) q
     where
       stopped : (b : Bool) → b ≡ true → not b ≡ true → ⊥
       stopped true p q = cc
       stopped false p q = cc
 
   -- they end before none that is left out in some places
-  never_before : (n : ℕ) (at : Position) (ts : List Tok) (m : List (Option Item)) (t : Tok) (rest : List Tok) → all_within n at ts ≡ reads m (t ∷ rest) → contains STAND_INS (number t.head) ≡ true → ⊥
+  never_before : (n : ℕ) (at : Position) (ts : List Tok) (m : List (Option Item)) (t : Tok) (rest : List Tok) → all_within n at ts ≡ reads m (t ∷ rest) → contains STAND_INS (number t.kind) ≡ true → ⊥
   never_before zero at ts m t rest d e = by_stop (stops_here anywhere starts_there at ts) refl d
     where
       by_stop : (b : Bool) → stops_here anywhere starts_there at ts ≡ b → cond b (reads [] ts) (fault_at Syntax ts) ≡ reads m (t ∷ rest) → ⊥
@@ -230,7 +230,7 @@ unfolding any_module any_items
 all_exchanged = placed_too in_module behind_items (value_loosely (fold keep []) (all_items_exchanged FURTHER_PARAMETERS (first_place GLOBAL_NAMES)))
 
 -- a module doesn't end before one that is left out in some places
-all_never : (front : List Tok) (t : Tok) (rest : List Tok) (is : List Item) → all_at (front ++ t ∷ rest) ≡ reads is (t ∷ rest) → contains STAND_INS (number t.head) ≡ true → ⊥
+all_never : (front : List Tok) (t : Tok) (rest : List Tok) (is : List Item) → all_at (front ++ t ∷ rest) ≡ reads is (t ∷ rest) → contains STAND_INS (number t.kind) ≡ true → ⊥
 all_never front t rest is d e = by_result (all_items_at FURTHER_PARAMETERS (first_place GLOBAL_NAMES) (front ++ t ∷ rest)) refl d
   where
     by_result : (r : Result (List (Option Item) × List Tok) Fault) → all_items_at FURTHER_PARAMETERS (first_place GLOBAL_NAMES) (front ++ t ∷ rest) ≡ r → follow r (λ all. done (fold keep [] all)) ≡ reads is (t ∷ rest) → ⊥
@@ -238,29 +238,29 @@ all_never front t rest is d e = by_result (all_items_at FURTHER_PARAMETERS (firs
     by_result (Err f) q d = cc
 
 -- at an item's place a lifetime marker is told to be left out
-marker_told : (front : List Tok) (t : Tok) → nat_eq (number t.head) (number heads.LifetimeMarker) ≡ true → Outcome false in_module any_module all_at front t.head (Err (item_refusal t))
-marker_told front t e = subst (λ (k : TokenFault). Outcome false in_module any_module all_at front t.head (Err k)) (sym (ap name_refusal (same (number t.head) (number heads.LifetimeMarker) e))) (by_head t.head e)
+marker_told : (front : List Tok) (t : Tok) → nat_eq (number t.kind) (number kinds.LifetimeMarker) ≡ true → Outcome false in_module any_module all_at front t.kind (Err (item_refusal t))
+marker_told front t e = subst (λ (k : TokenFault). Outcome false in_module any_module all_at front t.kind (Err k)) (sym (ap name_refusal (same (number t.kind) (number kinds.LifetimeMarker) e))) (by_head t.kind e)
   where
-    by_head : (h : Head) → nat_eq (number h) (number heads.LifetimeMarker) ≡ true → Outcome false in_module any_module all_at front h (Err Profile)
-    by_head heads.LifetimeMarker e = tt
+    by_head : (h : TokenKind) → nat_eq (number h) (number kinds.LifetimeMarker) ≡ true → Outcome false in_module any_module all_at front h (Err Profile)
+    by_head kinds.LifetimeMarker e = tt
     by_head h e = absurd (differ e)
 
-pub module_exchanged : (front : List Tok) (t : Tok) (rest : List Tok) (k : TokenFault) → module_of (front ++ t ∷ rest) ≡ wrong (record { left = length (t ∷ rest); kind = k }) → contains SOMEWHERE (number t.head) ≡ true → Outcome false in_module any_module all_at front t.head (Err k)
+pub module_exchanged : (front : List Tok) (t : Tok) (rest : List Tok) (k : TokenFault) → module_of (front ++ t ∷ rest) ≡ wrong (record { left = length (t ∷ rest); kind = k }) → contains SOMEWHERE (number t.kind) ≡ true → Outcome false in_module any_module all_at front t.kind (Err k)
 module_exchanged front t rest k d e = by_result (all_at (front ++ t ∷ rest)) refl (module_is (front ++ t ∷ rest) ∙ d)
   where
-    by_end : (is : List Item) (left : List Tok) → all_at (front ++ t ∷ rest) ≡ reads is left → ended item_refusal is left ≡ wrong (record { left = length (t ∷ rest); kind = k }) → Outcome false in_module any_module all_at front t.head (Err k)
+    by_end : (is : List Item) (left : List Tok) → all_at (front ++ t ∷ rest) ≡ reads is left → ended item_refusal is left ≡ wrong (record { left = length (t ∷ rest); kind = k }) → Outcome false in_module any_module all_at front t.kind (Err k)
     by_end is [] q h = absurd cc
     by_end is (u ∷ us) q h =
         let l : length (u ∷ us) ≡ length (t ∷ rest) = ap (λ (x : Fault). x.left) (wrong_is {X = List Item} (record { left = length (u ∷ us); kind = item_refusal u }) (record { left = length (t ∷ rest); kind = k }) h) in
         let s = all_exchanged.sound (front ++ t ∷ rest) (u ∷ us) is q in
         let c = cut_is front (t ∷ rest) s.0 (u ∷ us) s.1 (sym l) in
-        by_class (nat_eq (number t.head) (number heads.LifetimeMarker)) refl (q ∙ ap (λ (y : List Tok). reads is y) (sym c.1)) (ap (λ (x : Fault). x.kind) (wrong_is {X = List Item} (record { left = length (u ∷ us); kind = item_refusal u }) (record { left = length (t ∷ rest); kind = k }) h)) (cons_is t u rest us c.1).0 e
+        by_class (nat_eq (number t.kind) (number kinds.LifetimeMarker)) refl (q ∙ ap (λ (y : List Tok). reads is y) (sym c.1)) (ap (λ (x : Fault). x.kind) (wrong_is {X = List Item} (record { left = length (u ∷ us); kind = item_refusal u }) (record { left = length (t ∷ rest); kind = k }) h)) (cons_is t u rest us c.1).0 e
       where
-        by_class : (b : Bool) → nat_eq (number t.head) (number heads.LifetimeMarker) ≡ b → all_at (front ++ t ∷ rest) ≡ reads is (t ∷ rest) → item_refusal u ≡ k → t ≡ u → b || contains STAND_INS (number t.head) ≡ true → Outcome false in_module any_module all_at front t.head (Err k)
-        by_class true p q' i j e' = subst (λ (x : TokenFault). Outcome false in_module any_module all_at front t.head (Err x)) (ap item_refusal j ∙ i) (marker_told front t p)
+        by_class : (b : Bool) → nat_eq (number t.kind) (number kinds.LifetimeMarker) ≡ b → all_at (front ++ t ∷ rest) ≡ reads is (t ∷ rest) → item_refusal u ≡ k → t ≡ u → b || contains STAND_INS (number t.kind) ≡ true → Outcome false in_module any_module all_at front t.kind (Err k)
+        by_class true p q' i j e' = subst (λ (x : TokenFault). Outcome false in_module any_module all_at front t.kind (Err x)) (ap item_refusal j ∙ i) (marker_told front t p)
         by_class false p q' i j e' = absurd (all_never front t rest is q' e')
 
-    by_result : (r : Result (List Item × List Tok) Fault) → all_at (front ++ t ∷ rest) ≡ r → whole_of item_refusal r ≡ wrong (record { left = length (t ∷ rest); kind = k }) → Outcome false in_module any_module all_at front t.head (Err k)
+    by_result : (r : Result (List Item × List Tok) Fault) → all_at (front ++ t ∷ rest) ≡ r → whole_of item_refusal r ≡ wrong (record { left = length (t ∷ rest); kind = k }) → Outcome false in_module any_module all_at front t.kind (Err k)
     by_result (Ok x) q h = by_end x.0 x.1 q h
     by_result (Err f) q h = all_exchanged.swap front t rest (Err k) (q ∙ ap wrong (wrong_is {X = List Item} f (record { left = length (t ∷ rest); kind = k }) h))
 
@@ -308,16 +308,16 @@ Placed classes front Limit = Unit {0}
 
 -- neither it nor one of them begins an item
 module _ (classes : List ℕ) (angled : Bool) (front : List Tok) (t : Tok) (q : is_angled front ≡ angled) (own : item_refusal t ≡ Syntax) (others : (u : Tok) → among tokens classes u ≡ true → item_refusal u ≡ Syntax)
-    (told : IsTold angled t.head (Stuck all_at front) (Goes any_module front) → (u : Tok) × (among tokens classes u ≡ true) × Goes any_module front u) (not_told : NotTold angled t.head (Stuck all_at front) (Goes any_module front) (in_module front tt) → (u : Tok) → among tokens classes u ≡ true → Stuck all_at front u)
-    (stays : (is : List Item) → OutcomeAt false in_module any_module all_at angled front t.head (Ok is) → (u : Tok) → among tokens classes u ≡ true → Stays all_at front is u) where
+    (told : IsTold angled t.kind (Stuck all_at front) (Goes any_module front) → (u : Tok) × (among tokens classes u ≡ true) × Goes any_module front u) (not_told : NotTold angled t.kind (Stuck all_at front) (Goes any_module front) (in_module front tt) → (u : Tok) → among tokens classes u ≡ true → Stuck all_at front u)
+    (stays : (is : List Item) → OutcomeAt false in_module any_module all_at angled front t.kind (Ok is) → (u : Tok) → among tokens classes u ≡ true → Stays all_at front is u) where
   -- what is said there
-  said : (rest : List Tok) (o : Result (List Item) TokenFault) → all_at (front ++ t ∷ rest) ≡ ends o (t ∷ rest) → OutcomeAt false in_module any_module all_at angled front t.head o
-  said rest o d = subst (λ (b : Bool). OutcomeAt false in_module any_module all_at b front t.head o) q (all_exchanged.swap front t rest o d)
+  said : (rest : List Tok) (o : Result (List Item) TokenFault) → all_at (front ++ t ∷ rest) ≡ ends o (t ∷ rest) → OutcomeAt false in_module any_module all_at angled front t.kind o
+  said rest o d = subst (λ (b : Bool). OutcomeAt false in_module any_module all_at b front t.kind o) q (all_exchanged.swap front t rest o d)
 
   items_end : (rest : List Tok) (is : List Item) → all_at (front ++ t ∷ rest) ≡ reads is (t ∷ rest) → Placed classes front Syntax
   items_end rest is d u i = none_at front u (λ rest'. (Syntax, λ b. b, sym (module_is (front ++ u ∷ rest')) ∙ ap (whole_of item_refusal) (stays is (said rest (Ok is) d) u i rest') ∙ ap (λ (k : TokenFault). wrong (record { left = length (u ∷ rest'); kind = k })) (others u i)))
 
-  by_kind : (k : TokenFault) → OutcomeAt false in_module any_module all_at angled front t.head (Err k) → Placed classes front k
+  by_kind : (k : TokenFault) → OutcomeAt false in_module any_module all_at angled front t.kind (Err k) → Placed classes front k
   by_kind Syntax o = λ u i. none_goes_on front u (not_told o u i)
   by_kind Profile o = told o
   by_kind Number o = tt
@@ -340,46 +340,46 @@ module _ (classes : List ℕ) (angled : Bool) (front : List Tok) (t : Tok) (q : 
 
 -- of a class of which none begins an item
 refused_syntax : (class : ℕ) → name_refusal class ≡ Syntax → (u : Tok) → among tokens (class ∷ []) u ≡ true → item_refusal u ≡ Syntax
-refused_syntax class e u i = by_test (nat_eq (number u.head) class) refl i
+refused_syntax class e u i = by_test (nat_eq (number u.kind) class) refl i
   where
-    by_test : (b : Bool) → nat_eq (number u.head) class ≡ b → b || false ≡ true → item_refusal u ≡ Syntax
-    by_test true p i = ap name_refusal (same (number u.head) class p) ∙ e
+    by_test : (b : Bool) → nat_eq (number u.kind) class ≡ b → b || false ≡ true → item_refusal u ≡ Syntax
+    by_test true p i = ap name_refusal (same (number u.kind) class p) ∙ e
     by_test false p i = absurd cc
 
 -- ---- a number directly behind `<`, where `{` goes on
 
-number_told : (h : Head) (S G : Tok → Type 0) → contains (number heads.Number ∷ []) (number h) ≡ true → IsTold true h S G → (u : Tok) × (among tokens OPEN_BRACE u ≡ true) × G u
-number_told heads.Number S G e n = n refl
+number_told : (h : TokenKind) (S G : Tok → Type 0) → contains (number kinds.Number ∷ []) (number h) ≡ true → IsTold true h S G → (u : Tok) × (among tokens OPEN_BRACE u ≡ true) × G u
+number_told kinds.Number S G e n = n refl
 number_told h S G e n = absurd (differ e)
 
-number_not : (h : Head) (S G : Tok → Type 0) (P : Type 0) → contains (number heads.Number ∷ []) (number h) ≡ true → NotTold true h S G P → (u : Tok) → among tokens OPEN_BRACE u ≡ true → S u
-number_not heads.Number S G P e n = n refl
+number_not : (h : TokenKind) (S G : Tok → Type 0) (P : Type 0) → contains (number kinds.Number ∷ []) (number h) ≡ true → NotTold true h S G P → (u : Tok) → among tokens OPEN_BRACE u ≡ true → S u
+number_not kinds.Number S G P e n = n refl
 number_not h S G P e n = absurd (differ e)
 
-number_stays : (h : Head) (is : List Item) (front : List Tok) → contains (number heads.Number ∷ []) (number h) ≡ true → OutcomeAt false in_module any_module all_at true front h (Ok is) → (u : Tok) → among tokens OPEN_BRACE u ≡ true → Stays all_at front is u
-number_stays heads.Number is front e (inl stays) = stays
-number_stays heads.Number is front e (inr w) = absurd w.1
+number_stays : (h : TokenKind) (is : List Item) (front : List Tok) → contains (number kinds.Number ∷ []) (number h) ≡ true → OutcomeAt false in_module any_module all_at true front h (Ok is) → (u : Tok) → among tokens OPEN_BRACE u ≡ true → Stays all_at front is u
+number_stays kinds.Number is front e (inl stays) = stays
+number_stays kinds.Number is front e (inr w) = absurd w.1
 number_stays h is front e o = absurd (differ e)
 
-pub vector_placed : (front : List Tok) (t : Tok) → among tokens (number heads.Number ∷ []) t ≡ true → is_angled front ≡ true → (rest : List Tok) (k : TokenFault) → module_of (front ++ t ∷ rest) ≡ wrong (record { left = length (t ∷ rest); kind = k }) → Placed OPEN_BRACE front k
+pub vector_placed : (front : List Tok) (t : Tok) → among tokens (number kinds.Number ∷ []) t ≡ true → is_angled front ≡ true → (rest : List Tok) (k : TokenFault) → module_of (front ++ t ∷ rest) ≡ wrong (record { left = length (t ∷ rest); kind = k }) → Placed OPEN_BRACE front k
 vector_placed front t n q =
-    placed OPEN_BRACE true front t q (refused_syntax (number heads.Number) refl t n) (refused_syntax (number heads.OpenBrace) refl) (number_told t.head (Stuck all_at front) (Goes any_module front) n) (number_not t.head (Stuck all_at front) (Goes any_module front) (in_module front tt) n) (λ is. number_stays t.head is front n)
+    placed OPEN_BRACE true front t q (refused_syntax (number kinds.Number) refl t n) (refused_syntax (number kinds.OpenBrace) refl) (number_told t.kind (Stuck all_at front) (Goes any_module front) n) (number_not t.kind (Stuck all_at front) (Goes any_module front) (in_module front tt) n) (λ is. number_stays t.kind is front n)
 
 -- ---- a string, where another goes on
 
-string_told : (b : Bool) (h : Head) (S G : Tok → Type 0) → contains STRING (number h) ≡ true → IsTold b h S G → (u : Tok) × (among tokens STRING u ≡ true) × G u
-string_told b heads.Str S G e n = n
+string_told : (b : Bool) (h : TokenKind) (S G : Tok → Type 0) → contains STRING (number h) ≡ true → IsTold b h S G → (u : Tok) × (among tokens STRING u ≡ true) × G u
+string_told b kinds.Str S G e n = n
 string_told b h S G e n = absurd (differ e)
 
-string_not : (b : Bool) (h : Head) (S G : Tok → Type 0) (P : Type 0) → contains STRING (number h) ≡ true → NotTold b h S G P → (u : Tok) → among tokens STRING u ≡ true → S u
-string_not b heads.Str S G P e n = n
+string_not : (b : Bool) (h : TokenKind) (S G : Tok → Type 0) (P : Type 0) → contains STRING (number h) ≡ true → NotTold b h S G P → (u : Tok) → among tokens STRING u ≡ true → S u
+string_not b kinds.Str S G P e n = n
 string_not b h S G P e n = absurd (differ e)
 
-string_stays : (b : Bool) (h : Head) (is : List Item) (front : List Tok) → contains STRING (number h) ≡ true → OutcomeAt false in_module any_module all_at b front h (Ok is) → (u : Tok) → among tokens STRING u ≡ true → Stays all_at front is u
-string_stays b heads.Str is front e (inl stays) = stays
-string_stays b heads.Str is front e (inr w) = absurd w.1
+string_stays : (b : Bool) (h : TokenKind) (is : List Item) (front : List Tok) → contains STRING (number h) ≡ true → OutcomeAt false in_module any_module all_at b front h (Ok is) → (u : Tok) → among tokens STRING u ≡ true → Stays all_at front is u
+string_stays b kinds.Str is front e (inl stays) = stays
+string_stays b kinds.Str is front e (inr w) = absurd w.1
 string_stays b h is front e o = absurd (differ e)
 
 pub string_placed : (front : List Tok) (t : Tok) → among tokens STRING t ≡ true → (rest : List Tok) (k : TokenFault) → module_of (front ++ t ∷ rest) ≡ wrong (record { left = length (t ∷ rest); kind = k }) → Placed STRING front k
 string_placed front t n =
-    placed STRING (is_angled front) front t refl (refused_syntax (number heads.Str) refl t n) (refused_syntax (number heads.Str) refl) (string_told (is_angled front) t.head (Stuck all_at front) (Goes any_module front) n) (string_not (is_angled front) t.head (Stuck all_at front) (Goes any_module front) (in_module front tt) n) (λ is. string_stays (is_angled front) t.head is front n)
+    placed STRING (is_angled front) front t refl (refused_syntax (number kinds.Str) refl t n) (refused_syntax (number kinds.Str) refl) (string_told (is_angled front) t.kind (Stuck all_at front) (Goes any_module front) n) (string_not (is_angled front) t.kind (Stuck all_at front) (Goes any_module front) (in_module front tt) n) (λ is. string_stays (is_angled front) t.kind is front n)

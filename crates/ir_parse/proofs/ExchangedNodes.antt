@@ -3,8 +3,8 @@ use Rattle.std.proofs.Common.{◌≡◌, Bool, true, false, cond, ◌&&◌, List
 use Rattle.std.proofs.lemmas.List.{length-append}
 use Rattle.std.specs.Prelude.{codes}
 use Rattle.ir_lex.specs.Tok.{Tok}
-use Rattle.ir_lex.specs.declared.head.Head.TheVariants as heads
-use Rattle.ir_lex.specs.declared.token.Kind.TheVariants as kinds
+use Rattle.ir_lex.specs.declared.token_kind.TokenKind.TheVariants as kinds
+use Rattle.ir_lex.specs.declared.token.TokenForm.TheVariants as forms
 use Rattle.ir_read.proofs.Composed.{wrong_is, reads}
 use Rattle.ir_read.specs.Alphabet.{among, contains}
 use Rattle.ir_read.specs.Balanced.{Move, none_open, stays}
@@ -28,7 +28,7 @@ use Rattle.ir_parse.proofs.ExchangedTokens.{one_sample}
 use Rattle.ir_parse.proofs.ExchangedWords.{bang_exchanged, comma_exchanged, meta_exchanged}
 
 meta_one : Exchanges (one_of META ends_line) (one_of_at META ends_line)
-meta_one = one_sample META ends_line (sample kinds.Meta heads.Meta (codes "!a")) refl meta_real refl
+meta_one = one_sample META ends_line (sample forms.Meta kinds.Meta (codes "!a")) refl meta_real refl
 
 pub node_exchanged : Exchanges node node_at
 unfolding node node_at
@@ -47,9 +47,9 @@ unfolding attachments attachments_at
 attachments_exchanged = seq (star COMMA refl attachment_exchanged (taken attachment_rule)) (λ _. nothing tt)
 
 -- at `target` there are none
-pub no_attachments : (t : Tok) (rest : List Tok) → is_target t.head ≡ true → attachments_at (t ∷ rest) ≡ reads tt (t ∷ rest)
+pub no_attachments : (t : Tok) (rest : List Tok) → is_target t.kind ≡ true → attachments_at (t ∷ rest) ≡ reads tt (t ∷ rest)
 unfolding attachments_at
-no_attachments t rest e = ap (λ (n : ℕ). follow (cond (contains COMMA n) ((attachment_at >>= λ a. many_at (among tokens COMMA) attachment_at (length rest) >>= λ more. done (a ∷ more)) (t ∷ rest)) (reads [] (t ∷ rest))) (λ _. done tt)) (target_is t.head e)
+no_attachments t rest e = ap (λ (n : ℕ). follow (cond (contains COMMA n) ((attachment_at >>= λ a. many_at (among tokens COMMA) attachment_at (length rest) >>= λ more. done (a ∷ more)) (t ∷ rest)) (reads [] (t ∷ rest))) (λ _. done tt)) (target_is t.kind e)
 
 -- a fault at a token is none behind it
 not_behind : (bs : List Bracket) (t : Tok) (rest : List Tok) (k : TokenFault) → run_at line_step bs rest ≡ fault_at k (t ∷ rest) → ⊥
@@ -70,10 +70,10 @@ stays_fits ends bs = by_test (ends && none_open bs)
     by_test true e = cc
     by_test false e = cc
 
-pub stays_in_line : (bs : List Bracket) (t : Tok) → move_of t.head ≡ stays → line_step bs t ≡ bad → ⊥
+pub stays_in_line : (bs : List Bracket) (t : Tok) → move_of t.kind ≡ stays → line_step bs t ≡ bad → ⊥
 stays_in_line bs t e d = stays_fits t.ends_line bs (ap (λ (m : Move Bracket). ended_by t.ends_line (open_behind m bs)) (sym e) ∙ d)
 
-never_run : (bs : List Bracket) (front : List Tok) (t : Tok) (rest : List Tok) (k : TokenFault) → run_at line_step bs (front ++ t ∷ rest) ≡ fault_at k (t ∷ rest) → move_of t.head ≡ stays → ⊥
+never_run : (bs : List Bracket) (front : List Tok) (t : Tok) (rest : List Tok) (k : TokenFault) → run_at line_step bs (front ++ t ∷ rest) ≡ fault_at k (t ∷ rest) → move_of t.kind ≡ stays → ⊥
 never_run bs [] t rest k d e = by_step (line_step bs t) refl d
   where
     by_step : (p : Step (List Bracket)) → line_step bs t ≡ p → read p t rest ≡ fault_at k (t ∷ rest) → ⊥
@@ -91,11 +91,11 @@ never_run bs (v ∷ front) t rest k d e = by_step (λ next d'. never_run next fr
     by_step again (onward next) d = again next d
 
 pub line_exchanged : (bs : List Bracket) → Swaps false true nowhere (Run line_step bs) (run_at line_step bs)
-line_exchanged bs = anywhere (line_rule bs) (λ front t rest k d i. never_run bs front t rest k d (steady_stays t.head i)) (λ front rest a d q. refl)
+line_exchanged bs = anywhere (line_rule bs) (λ front t rest k d i. never_run bs front t rest k d (steady_stays t.kind i)) (λ front rest a d q. refl)
 
 -- also behind `<`
-pub line_after : (bs : List Bracket) (t : Tok) (rest : List Tok) (o : Result (Unit {0}) TokenFault) → run_at line_step bs (t ∷ rest) ≡ ends o (t ∷ rest) → OutcomeAt false nowhere (Run line_step bs) (run_at line_step bs) true [] t.head o
-line_after bs t rest o d = ends_anywhere (line_rule bs) (λ front t rest k d i. never_run bs front t rest k d (steady_stays t.head i)) true [] t rest o d
+pub line_after : (bs : List Bracket) (t : Tok) (rest : List Tok) (o : Result (Unit {0}) TokenFault) → run_at line_step bs (t ∷ rest) ≡ ends o (t ∷ rest) → OutcomeAt false nowhere (Run line_step bs) (run_at line_step bs) true [] t.kind o
+line_after bs t rest o d = ends_anywhere (line_rule bs) (λ front t rest k d i. never_run bs front t rest k d (steady_stays t.kind i)) true [] t rest o d
 
 pub rest_of_line_exchanged : (ends : Bool) → Swaps false true nowhere (rest_of_line ends) (rest_of_line_at ends)
 rest_of_line_exchanged true = loosely (nothing tt)

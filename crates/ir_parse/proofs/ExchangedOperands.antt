@@ -1,9 +1,9 @@
 -- The readers of types, names and operands tell a token that is left out in some places where one that it stands for goes on.
 use Rattle.std.proofs.Common.{◌≡◌, nat_eq, Bool, true, false, ◌||◌, [], ◌∷◌, refl}
 use Rattle.std.specs.Prelude.{codes}
-use Rattle.ir_lex.specs.Heads.{number}
+use Rattle.ir_lex.specs.TokenKinds.{number}
 use Rattle.ir_lex.specs.Tok.{Tok}
-use Rattle.ir_lex.specs.declared.head.Head.TheVariants as heads
+use Rattle.ir_lex.specs.declared.token_kind.TokenKind.TheVariants as kinds
 use Rattle.ir_tree.specs.declared.operand.Reg.TheVariants.{Int, Ptr}
 use Rattle.ir_tree.specs.declared.operand.Reg.{Reg}
 use Rattle.ir_read.specs.Alphabet.{among}
@@ -19,10 +19,10 @@ use Rattle.ir_parse.proofs.ExchangedTokens.{exact_type, i8_real, memory_one, pla
 use Rattle.ir_parse.proofs.ExchangedWords.{disjoint_exchanged, exact_exchanged, nneg_exchanged, samesign_exchanged}
 
 abbrev i8 : Tok
-i8 = word heads.MemoryInteger (codes "i8")
+i8 = word kinds.MemoryInteger (codes "i8")
 
 abbrev i32 : Tok
-i32 = word heads.MemoryInteger (codes "i32")
+i32 = word kinds.MemoryInteger (codes "i32")
 
 pub reg_exchanged : Exchanges reg reg_at
 reg_exchanged = type_one REG reg_of reg_rule refl refl i32 refl int_32_real refl
@@ -31,13 +31,13 @@ pub integer_exchanged : Exchanges integer integer_at
 integer_exchanged = type_one INTEGER width integer_rule refl refl i32 refl int_32_real refl
 
 pub bit_exchanged : Exchanges bit bit_at
-bit_exchanged = exact_type INTEGER is_bit width refl (word heads.RegisterInteger (codes "i1")) refl refl refl int_1_real i8 refl refl i8_real bit_rule
+bit_exchanged = exact_type INTEGER is_bit width refl (word kinds.RegisterInteger (codes "i1")) refl refl refl int_1_real i8 refl refl i8_real bit_rule
 
 pub scalar_exchanged : Exchanges scalar scalar_at
 scalar_exchanged = memory_one SCALAR reg_of scalar_rule refl refl i32 refl int_32_real refl (λ v i. scalar_too v i)
   where
     scalar_too : (v : Tok) → among tokens MEMORY v ≡ true → among tokens SCALAR v ≡ true
-    scalar_too v i = by_test (nat_eq (number v.head) (number heads.MemoryInteger)) (nat_eq (number v.head) (number heads.Ptr)) i
+    scalar_too v i = by_test (nat_eq (number v.kind) (number kinds.MemoryInteger)) (nat_eq (number v.kind) (number kinds.Ptr)) i
       where
         by_test : (b c : Bool) → b || false ≡ true → b || (c || false) ≡ true
         by_test true c h = refl
@@ -53,14 +53,14 @@ pub simple_exchanged : (r : Reg) → Exchanges (simple r) (simple_at r)
 simple_exchanged (Int w) = plain_valued NUMBER_OPERAND (operand_of (Int w)) (simple_rule (Int w)) refl
 simple_exchanged Ptr = plain_valued POINTER_OPERAND (operand_of Ptr) (simple_rule Ptr) refl
 
-pub maybe_exact_exchanged : Exchanges (maybe heads.Exact) (maybe_at heads.Exact)
-maybe_exact_exchanged = alt (number heads.Exact ∷ []) refl (seq exact_exchanged (λ _. nothing true)) (nothing false)
+pub maybe_exact_exchanged : Exchanges (maybe kinds.Exact) (maybe_at kinds.Exact)
+maybe_exact_exchanged = alt (number kinds.Exact ∷ []) refl (seq exact_exchanged (λ _. nothing true)) (nothing false)
 
-pub maybe_disjoint_exchanged : Exchanges (maybe heads.Disjoint) (maybe_at heads.Disjoint)
-maybe_disjoint_exchanged = alt (number heads.Disjoint ∷ []) refl (seq disjoint_exchanged (λ _. nothing true)) (nothing false)
+pub maybe_disjoint_exchanged : Exchanges (maybe kinds.Disjoint) (maybe_at kinds.Disjoint)
+maybe_disjoint_exchanged = alt (number kinds.Disjoint ∷ []) refl (seq disjoint_exchanged (λ _. nothing true)) (nothing false)
 
-pub maybe_samesign_exchanged : Exchanges (maybe heads.Samesign) (maybe_at heads.Samesign)
-maybe_samesign_exchanged = alt (number heads.Samesign ∷ []) refl (seq samesign_exchanged (λ _. nothing true)) (nothing false)
+pub maybe_samesign_exchanged : Exchanges (maybe kinds.Samesign) (maybe_at kinds.Samesign)
+maybe_samesign_exchanged = alt (number kinds.Samesign ∷ []) refl (seq samesign_exchanged (λ _. nothing true)) (nothing false)
 
-pub maybe_nneg_exchanged : Exchanges (maybe heads.Nneg) (maybe_at heads.Nneg)
-maybe_nneg_exchanged = alt (number heads.Nneg ∷ []) refl (seq nneg_exchanged (λ _. nothing true)) (nothing false)
+pub maybe_nneg_exchanged : Exchanges (maybe kinds.Nneg) (maybe_at kinds.Nneg)
+maybe_nneg_exchanged = alt (number kinds.Nneg ∷ []) refl (seq nneg_exchanged (λ _. nothing true)) (nothing false)

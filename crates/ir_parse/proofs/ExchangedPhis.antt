@@ -1,7 +1,7 @@
 -- The readers of phis tell a token that is left out in some places where one that it stands for goes on.
 use Rattle.std.proofs.Common.{Bool, true, false, Option, [], refl}
-use Rattle.ir_lex.specs.Heads.{number}
-use Rattle.ir_lex.specs.declared.head.Head.TheVariants as heads
+use Rattle.ir_lex.specs.TokenKinds.{number}
+use Rattle.ir_lex.specs.declared.token_kind.TokenKind.TheVariants as kinds
 use Rattle.ir_tree.specs.declared.operand.Reg.{Reg}
 use Rattle.ir_read.specs.Chained.{Chain, chain_at}
 use Rattle.ir_read.specs.Rules.{is_class}
@@ -42,7 +42,7 @@ further_exchanged r s = seq comma_exchanged (λ _. behind_comma_exchanged r s)
 
 further_some : (r : Reg) (s : Bool) (x : Option Incoming × Bool) → further any_shape r s [] x → ⊥
 unfolding further
-further_some r s x q = token_begins (is_class tokens refusal (number heads.Comma)) _ x q
+further_some r s x q = token_begins (is_class tokens refusal (number kinds.Comma)) _ x q
 
 pub more_exchanged : (r : Reg) → Exchanges (Chain phis.anywhere (further any_shape r) false) (chain_at phis.anywhere begins (further_at r) false)
 more_exchanged r = chain phis.anywhere (λ _. COMMA) (further any_shape r) (further_at r) (further_exchanged r) (further_some r) (λ _. ([], [], (refl, refl), tt)) (λ _ _. refl) false

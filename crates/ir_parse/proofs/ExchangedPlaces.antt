@@ -1,9 +1,9 @@
 -- Where the grammar stops at a token that is left out in some places, it is told as such exactly where one that it stands for goes on.
 use Rattle.std.proofs.Common.{◌≡◌, ℕ, Bool, true, false, true≢false, ◌||◌, ◌⊎◌, inl, inr, List, [], ◌∷◌, ◌++◌, length, Err, refl, sym, ap, subst, ◌∙◌, append_assoc}
-use Rattle.ir_lex.specs.Heads.{number}
+use Rattle.ir_lex.specs.TokenKinds.{number}
 use Rattle.ir_lex.specs.Tok.{Tok}
-use Rattle.ir_lex.specs.declared.head.Head.TheVariants as heads
-use Rattle.ir_lex.specs.declared.head.Head.{Head}
+use Rattle.ir_lex.specs.declared.token_kind.TokenKind.TheVariants as kinds
+use Rattle.ir_lex.specs.declared.token_kind.TokenKind.{TokenKind}
 use Rattle.ir_read.proofs.Composed.{wrong}
 use Rattle.ir_read.proofs.Rules.{within_of}
 use Rattle.ir_read.specs.Alphabet.{among, contains}
@@ -24,42 +24,42 @@ use Rattle.ir_parse.proofs.Told.{REFUSED_SOMEWHERE}
 
 -- ---- what is said of each class
 
-type_told : (b : Bool) (h : Head) (S G : Tok → Type 0) → contains TYPE (number h) ≡ true → IsTold b h S G → (u : Tok) × (among tokens REG u ≡ true) × G u
-type_told b heads.RefusedType S G e n = n
+type_told : (b : Bool) (h : TokenKind) (S G : Tok → Type 0) → contains TYPE (number h) ≡ true → IsTold b h S G → (u : Tok) × (among tokens REG u ≡ true) × G u
+type_told b kinds.RefusedType S G e n = n
 type_told b h S G e n = absurd (differ e)
 
-target_told : (b : Bool) (h : Head) (S G : Tok → Type 0) → contains TARGET (number h) ≡ true → IsTold b h S G → ((u : Tok) × (among tokens REG u ≡ true) × G u) × ((w : Tok) → among tokens WORD w ≡ true → S w)
-target_told b heads.Target S G e n = n
+target_told : (b : Bool) (h : TokenKind) (S G : Tok → Type 0) → contains TARGET (number h) ≡ true → IsTold b h S G → ((u : Tok) × (among tokens REG u ≡ true) × G u) × ((w : Tok) → among tokens WORD w ≡ true → S w)
+target_told b kinds.Target S G e n = n
 target_told b h S G e n = absurd (differ e)
 
-integer_told : (b : Bool) (h : Head) (S G : Tok → Type 0) → contains INTEGER (number h) ≡ true → IsTold b h S G → (u : Tok) → among tokens MEMORY u ≡ true → IsReal u → G u
-integer_told b heads.RegisterInteger S G e n = n
+integer_told : (b : Bool) (h : TokenKind) (S G : Tok → Type 0) → contains INTEGER (number h) ≡ true → IsTold b h S G → (u : Tok) → among tokens MEMORY u ≡ true → IsReal u → G u
+integer_told b kinds.RegisterInteger S G e n = n
 integer_told b h S G e n = absurd (differ e)
 
-name_told : (b : Bool) (h : Head) (S G : Tok → Type 0) → contains NUMBERED (number h) ≡ true → IsTold b h S G → (u : Tok) × (among tokens GLOBAL u ≡ true) × G u
-name_told b heads.NumberedGlobal S G e n = n
-name_told b heads.NumberedDefinition S G e n = n
+name_told : (b : Bool) (h : TokenKind) (S G : Tok → Type 0) → contains NUMBERED (number h) ≡ true → IsTold b h S G → (u : Tok) × (among tokens GLOBAL u ≡ true) × G u
+name_told b kinds.NumberedGlobal S G e n = n
+name_told b kinds.NumberedDefinition S G e n = n
 name_told b h S G e n = absurd (differ e)
 
-type_not : (b : Bool) (h : Head) (S G : Tok → Type 0) (P : Type 0) → contains TYPE (number h) ≡ true → NotTold b h S G P → (u : Tok) → among tokens REG u ≡ true → S u
-type_not b heads.RefusedType S G P e n = n
+type_not : (b : Bool) (h : TokenKind) (S G : Tok → Type 0) (P : Type 0) → contains TYPE (number h) ≡ true → NotTold b h S G P → (u : Tok) → among tokens REG u ≡ true → S u
+type_not b kinds.RefusedType S G P e n = n
 type_not b h S G P e n = absurd (differ e)
 
-target_not : (b : Bool) (h : Head) (S G : Tok → Type 0) (P : Type 0) → contains TARGET (number h) ≡ true → NotTold b h S G P → ((u : Tok) → among tokens REG u ≡ true → S u) ⊎ ((w : Tok) × (among tokens WORD w ≡ true) × G w)
-target_not b heads.Target S G P e n = n
+target_not : (b : Bool) (h : TokenKind) (S G : Tok → Type 0) (P : Type 0) → contains TARGET (number h) ≡ true → NotTold b h S G P → ((u : Tok) → among tokens REG u ≡ true → S u) ⊎ ((w : Tok) × (among tokens WORD w ≡ true) × G w)
+target_not b kinds.Target S G P e n = n
 target_not b h S G P e n = absurd (differ e)
 
-integer_not : (b : Bool) (h : Head) (S G : Tok → Type 0) (P : Type 0) → contains INTEGER (number h) ≡ true → NotTold b h S G P → (u : Tok) × (among tokens MEMORY u ≡ true) × IsReal u × S u
-integer_not b heads.RegisterInteger S G P e n = n
+integer_not : (b : Bool) (h : TokenKind) (S G : Tok → Type 0) (P : Type 0) → contains INTEGER (number h) ≡ true → NotTold b h S G P → (u : Tok) × (among tokens MEMORY u ≡ true) × IsReal u × S u
+integer_not b kinds.RegisterInteger S G P e n = n
 integer_not b h S G P e n = absurd (differ e)
 
-name_not : (b : Bool) (h : Head) (S G : Tok → Type 0) (P : Type 0) → contains NUMBERED (number h) ≡ true → NotTold b h S G P → (u : Tok) → among tokens GLOBAL u ≡ true → S u
-name_not b heads.NumberedGlobal S G P e n = n
-name_not b heads.NumberedDefinition S G P e n = n
+name_not : (b : Bool) (h : TokenKind) (S G : Tok → Type 0) (P : Type 0) → contains NUMBERED (number h) ≡ true → NotTold b h S G P → (u : Tok) → among tokens GLOBAL u ≡ true → S u
+name_not b kinds.NumberedGlobal S G P e n = n
+name_not b kinds.NumberedDefinition S G P e n = n
 name_not b h S G P e n = absurd (differ e)
 
-marker_not : (b : Bool) (h : Head) (S G : Tok → Type 0) (P : Type 0) → contains MARKER (number h) ≡ true → NotTold b h S G P → P
-marker_not b heads.LifetimeMarker S G P e n = n
+marker_not : (b : Bool) (h : TokenKind) (S G : Tok → Type 0) (P : Type 0) → contains MARKER (number h) ≡ true → NotTold b h S G P → P
+marker_not b kinds.LifetimeMarker S G P e n = n
 marker_not b h S G P e n = absurd (differ e)
 
 -- ---- in terms of the grammar
@@ -78,23 +78,23 @@ module _ (front : List Tok) (t : Tok) (rest : List Tok) where
   abbrev Refused : TokenFault → Type 0
   Refused k = module_of (front ++ t ∷ rest) ≡ wrong (record { left = length (t ∷ rest); kind = k })
 
-  said : (k : TokenFault) → Refused k → (classes : List ℕ) → (contains classes (number t.head) ≡ true → contains SOMEWHERE (number t.head) ≡ true) → contains classes (number t.head) ≡ true → Outcome false in_module any_module all_at front t.head (Err k)
+  said : (k : TokenFault) → Refused k → (classes : List ℕ) → (contains classes (number t.kind) ≡ true → contains SOMEWHERE (number t.kind) ≡ true) → contains classes (number t.kind) ≡ true → Outcome false in_module any_module all_at front t.kind (Err k)
   said k e classes within c = module_exchanged front t rest k e (within c)
 
-  in_types : contains TYPE (number t.head) ≡ true → contains SOMEWHERE (number t.head) ≡ true
-  in_types e = within_of TYPE SOMEWHERE refl (number t.head) e
+  in_types : contains TYPE (number t.kind) ≡ true → contains SOMEWHERE (number t.kind) ≡ true
+  in_types e = within_of TYPE SOMEWHERE refl (number t.kind) e
 
-  in_target : contains TARGET (number t.head) ≡ true → contains SOMEWHERE (number t.head) ≡ true
-  in_target e = within_of TARGET SOMEWHERE refl (number t.head) e
+  in_target : contains TARGET (number t.kind) ≡ true → contains SOMEWHERE (number t.kind) ≡ true
+  in_target e = within_of TARGET SOMEWHERE refl (number t.kind) e
 
-  in_integers : contains INTEGER (number t.head) ≡ true → contains SOMEWHERE (number t.head) ≡ true
-  in_integers e = within_of INTEGER SOMEWHERE refl (number t.head) e
+  in_integers : contains INTEGER (number t.kind) ≡ true → contains SOMEWHERE (number t.kind) ≡ true
+  in_integers e = within_of INTEGER SOMEWHERE refl (number t.kind) e
 
-  in_names : contains NUMBERED (number t.head) ≡ true → contains SOMEWHERE (number t.head) ≡ true
-  in_names e = within_of NUMBERED SOMEWHERE refl (number t.head) e
+  in_names : contains NUMBERED (number t.kind) ≡ true → contains SOMEWHERE (number t.kind) ≡ true
+  in_names e = within_of NUMBERED SOMEWHERE refl (number t.kind) e
 
-  in_markers : contains MARKER (number t.head) ≡ true → contains SOMEWHERE (number t.head) ≡ true
-  in_markers e = within_of MARKER SOMEWHERE refl (number t.head) e
+  in_markers : contains MARKER (number t.kind) ≡ true → contains SOMEWHERE (number t.kind) ≡ true
+  in_markers e = within_of MARKER SOMEWHERE refl (number t.kind) e
 
   a_number : (b : Bool) → b ≡ true → b || false ≡ true
   a_number b e = ap (λ (c : Bool). c || false) e
@@ -108,37 +108,37 @@ module _ (front : List Tok) (t : Tok) (rest : List Tok) where
     abbrev goes : Tok → Type 0
     goes = Goes any_module front
 
-    out_type : contains TYPE (number t.head) ≡ true → LeftOut front t
-    out_type c = of_type c (some_goes_on REG (type_told (is_angled front) t.head stuck goes c (said Profile e TYPE in_types c)))
+    out_type : contains TYPE (number t.kind) ≡ true → LeftOut front t
+    out_type c = of_type c (some_goes_on REG (type_told (is_angled front) t.kind stuck goes c (said Profile e TYPE in_types c)))
 
-    out_target : contains TARGET (number t.head) ≡ true → LeftOut front t
+    out_target : contains TARGET (number t.kind) ≡ true → LeftOut front t
     out_target c =
-        let p = target_told (is_angled front) t.head stuck goes c (said Profile e TARGET in_target c) in
+        let p = target_told (is_angled front) t.kind stuck goes c (said Profile e TARGET in_target c) in
         of_target c (some_goes_on REG p.0) (λ w i. none_goes_on front w (p.1 w i))
 
-    out_integer : contains INTEGER (number t.head) ≡ true → LeftOut front t
-    out_integer c = of_integer c (λ u i r. goes_on u (integer_told (is_angled front) t.head stuck goes c (said Profile e INTEGER in_integers c) u i r))
+    out_integer : contains INTEGER (number t.kind) ≡ true → LeftOut front t
+    out_integer c = of_integer c (λ u i r. goes_on u (integer_told (is_angled front) t.kind stuck goes c (said Profile e INTEGER in_integers c) u i r))
 
-    out_name : contains NUMBERED (number t.head) ≡ true → LeftOut front t
-    out_name c = of_name c (some_goes_on GLOBAL (name_told (is_angled front) t.head stuck goes c (said Profile e NUMBERED in_names c)))
+    out_name : contains NUMBERED (number t.kind) ≡ true → LeftOut front t
+    out_name c = of_name c (some_goes_on GLOBAL (name_told (is_angled front) t.kind stuck goes c (said Profile e NUMBERED in_names c)))
 
-    out_marker : contains MARKER (number t.head) ≡ true → LeftOut front t
+    out_marker : contains MARKER (number t.kind) ≡ true → LeftOut front t
     out_marker c = of_marker c (λ v. never_left_out front t rest v c e)
 
     out_vector : BeginsVector front t → LeftOut front t
     out_vector v = of_vector v (some_goes_on OPEN_BRACE (vector_placed front t (a_number _ v.0) v.1 rest Profile e))
 
-    out_somewhere : contains REFUSED_SOMEWHERE (number t.head) ≡ true → LeftOut front t
-    out_somewhere c = elim (split MARKER (TYPE ++ (TARGET ++ (INTEGER ++ NUMBERED))) (number t.head) c) [
+    out_somewhere : contains REFUSED_SOMEWHERE (number t.kind) ≡ true → LeftOut front t
+    out_somewhere c = elim (split MARKER (TYPE ++ (TARGET ++ (INTEGER ++ NUMBERED))) (number t.kind) c) [
       | inl p ↦ out_marker p
-      | inr c ↦ elim (split TYPE (TARGET ++ (INTEGER ++ NUMBERED)) (number t.head) c) [
+      | inr c ↦ elim (split TYPE (TARGET ++ (INTEGER ++ NUMBERED)) (number t.kind) c) [
         | inl p ↦ out_type p
-        | inr c ↦ elim (split TARGET (INTEGER ++ NUMBERED) (number t.head) c) [ inl p ↦ out_target p | inr c ↦ elim (split INTEGER NUMBERED (number t.head) c) [ inl p ↦ out_integer p | inr p ↦ out_name p ] ]
+        | inr c ↦ elim (split TARGET (INTEGER ++ NUMBERED) (number t.kind) c) [ inl p ↦ out_target p | inr c ↦ elim (split INTEGER NUMBERED (number t.kind) c) [ inl p ↦ out_integer p | inr p ↦ out_name p ] ]
       ]
     ]
 
-    pub left_out : (contains (REFUSED_EVERYWHERE ++ REFUSED_SOMEWHERE) (number t.head) ≡ true) ⊎ BeginsVector front t → LeftOut front t
-    left_out (inl c) = elim (split REFUSED_EVERYWHERE REFUSED_SOMEWHERE (number t.head) c) [ inl p ↦ everywhere p | inr p ↦ out_somewhere p ]
+    pub left_out : (contains (REFUSED_EVERYWHERE ++ REFUSED_SOMEWHERE) (number t.kind) ≡ true) ⊎ BeginsVector front t → LeftOut front t
+    left_out (inl c) = elim (split REFUSED_EVERYWHERE REFUSED_SOMEWHERE (number t.kind) c) [ inl p ↦ everywhere p | inr p ↦ out_somewhere p ]
     left_out (inr v) = out_vector v
 
     -- and at a string another goes on
@@ -148,19 +148,19 @@ module _ (front : List Tok) (t : Tok) (rest : List Tok) where
   -- ---- what is told against the syntax isn't
 
   module _ (e : Refused Syntax) where
-    pub not_left_out : contains REFUSED_EVERYWHERE (number t.head) ≡ false → LeftOut front t → ⊥
+    pub not_left_out : contains REFUSED_EVERYWHERE (number t.kind) ≡ false → LeftOut front t → ⊥
     not_left_out n (everywhere c) = true≢false (sym c ∙ n)
-    not_left_out n (of_type c g) = none_of REG (λ u i. none_goes_on front u (type_not (is_angled front) t.head (Stuck all_at front) (Goes any_module front) (in_module front tt) c (said Syntax e TYPE in_types c) u i)) g
-    not_left_out n (of_target c g w) = elim (target_not (is_angled front) t.head (Stuck all_at front) (Goes any_module front) (in_module front tt) c (said Syntax e TARGET in_target c)) [
+    not_left_out n (of_type c g) = none_of REG (λ u i. none_goes_on front u (type_not (is_angled front) t.kind (Stuck all_at front) (Goes any_module front) (in_module front tt) c (said Syntax e TYPE in_types c) u i)) g
+    not_left_out n (of_target c g w) = elim (target_not (is_angled front) t.kind (Stuck all_at front) (Goes any_module front) (in_module front tt) c (said Syntax e TARGET in_target c)) [
       | inl s ↦ none_of REG (λ u i. none_goes_on front u (s u i)) g
       | inr v ↦ none_of WORD w (some_goes_on WORD v)
     ]
     not_left_out n (of_integer c g) =
-        let p = integer_not (is_angled front) t.head (Stuck all_at front) (Goes any_module front) (in_module front tt) c (said Syntax e INTEGER in_integers c) in
+        let p = integer_not (is_angled front) t.kind (Stuck all_at front) (Goes any_module front) (in_module front tt) c (said Syntax e INTEGER in_integers c) in
         let v = g p.0 p.1 p.2 in
         none_goes_on front p.0 p.3 (v.0, v.1, v.2)
-    not_left_out n (of_name c g) = none_of GLOBAL (λ u i. none_goes_on front u (name_not (is_angled front) t.head (Stuck all_at front) (Goes any_module front) (in_module front tt) c (said Syntax e NUMBERED in_names c) u i)) g
-    not_left_out n (of_marker c v) = v (marker_not (is_angled front) t.head (Stuck all_at front) (Goes any_module front) (in_module front tt) c (said Syntax e MARKER in_markers c))
+    not_left_out n (of_name c g) = none_of GLOBAL (λ u i. none_goes_on front u (name_not (is_angled front) t.kind (Stuck all_at front) (Goes any_module front) (in_module front tt) c (said Syntax e NUMBERED in_names c) u i)) g
+    not_left_out n (of_marker c v) = v (marker_not (is_angled front) t.kind (Stuck all_at front) (Goes any_module front) (in_module front tt) c (said Syntax e MARKER in_markers c))
     not_left_out n (of_vector v g) = none_of OPEN_BRACE (vector_placed front t (a_number _ v.0) v.1 rest Syntax e) g
 
     pub no_string : StringGoesOn front t → ⊥

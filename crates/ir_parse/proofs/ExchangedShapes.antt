@@ -2,9 +2,9 @@
 use Rattle.std.proofs.Common.{length, arith, ◌≡◌, ℕ, zero, suc, Bool, true, false, cond, nat_eq, nat_lt, Option, Some, None, ◌&&◌, ◌||◌, not, List, [], ◌∷◌, ◌++◌, Result, Ok, Err, refl, sym, ap, subst, ◌∙◌}
 use Rattle.std.proofs.lemmas.List.{append-nil}
 use Rattle.std.specs.Prelude.{codes}
-use Rattle.ir_lex.specs.Heads.{number}
+use Rattle.ir_lex.specs.TokenKinds.{number}
 use Rattle.ir_lex.specs.Tok.{Tok}
-use Rattle.ir_lex.specs.declared.head.Head.TheVariants as heads
+use Rattle.ir_lex.specs.declared.token_kind.TokenKind.TheVariants as kinds
 use Rattle.ir_read.specs.Alphabet.{among}
 use Rattle.ir_read.specs.Chained.{Chain, chain_at}
 use Rattle.ir_read.proofs.Composed.{cons_is}
@@ -17,7 +17,7 @@ use Rattle.ir_read.specs.Rules.{in_range, is_class, is_valued}
 use Rattle.ir_read.specs.declared.fault.TokenFault.TheVariants.{Number, Limit, Profile}
 use Rattle.ir_read.specs.declared.fault.Fault.{Fault}
 use Rattle.ir_read.specs.declared.fault.TokenFault.{TokenFault}
-use Rattle.ir_lex.specs.declared.head.Head.{Head}
+use Rattle.ir_lex.specs.declared.token_kind.TokenKind.{TokenKind}
 use Rattle.ir_read.specs.Ahead.{BRACKETS}
 use Rattle.ir_read.specs.Classes.{tokens, IsReal, refusal, the, the_at}
 use Rattle.ir_operands.specs.Extents.{extent_of, grown, left, no_bytes, room_for, shared, whole}
@@ -70,15 +70,15 @@ left_false : (a b : Bool) → a || b ≡ false → (a ≡ false) × (b ≡ false
 left_false true b h = absurd cc
 left_false false b h = (refl, h)
 
-pub leaf_outside : (room : Room) (t : Tok) → among tokens LEAF t ≡ false → leaf_means room t ≡ Err (memory_refusal (number t.head))
+pub leaf_outside : (room : Room) (t : Tok) → among tokens LEAF t ≡ false → leaf_means room t ≡ Err (memory_refusal (number t.kind))
 unfolding leaf_means is_leaf is_valued
-leaf_outside room t e = let h = left_false (nat_eq (number t.head) (number heads.Local)) (among tokens SCALAR t) e in rw (h.0, h.1) refl
+leaf_outside room t e = let h = left_false (nat_eq (number t.kind) (number kinds.Local)) (among tokens SCALAR t) e in rw (h.0, h.1) refl
 
 leaf_inside : (room : Room) (t : Tok) → among tokens LEAF t ≡ true → (k : TokenFault) → leaf_means room t ≡ Err k → IsBound k
 unfolding leaf_means is_leaf is_valued
-leaf_inside room t p k d = by_tests (nat_eq (number t.head) (number heads.Local)) (among tokens SCALAR t) (has_room room t) (type_name t) p d
+leaf_inside room t p k d = by_tests (nat_eq (number t.kind) (number kinds.Local)) (among tokens SCALAR t) (has_room room t) (type_name t) p d
   where
-    by_tests : (l s r : Bool) (o : Option Typed) → l || s ≡ true → cond (s && not r) (refuse Limit) (cond (s && r) (Ok (scalar_typed t)) (cond (l || false) (in_range o) (refuse (memory_refusal (number t.head))))) ≡ refuse k → IsBound k
+    by_tests : (l s r : Bool) (o : Option Typed) → l || s ≡ true → cond (s && not r) (refuse Limit) (cond (s && r) (Ok (scalar_typed t)) (cond (l || false) (in_range o) (refuse (memory_refusal (number t.kind))))) ≡ refuse k → IsBound k
     by_tests l true false o p d = subst IsBound (err_is Limit k d) tt
     by_tests l true true o p d = absurd cc
     by_tests true false r None p d = subst IsBound (err_is Number k d) tt
@@ -86,14 +86,14 @@ leaf_inside room t p k d = by_tests (nat_eq (number t.head) (number heads.Local)
     by_tests false false r o p d = absurd cc
 
 memory_is_scalar : (v : Tok) → among tokens MEMORY v ≡ true → among tokens SCALAR v ≡ true
-memory_is_scalar v i = by_test (nat_eq (number v.head) (number heads.MemoryInteger)) (nat_eq (number v.head) (number heads.Ptr)) i
+memory_is_scalar v i = by_test (nat_eq (number v.kind) (number kinds.MemoryInteger)) (nat_eq (number v.kind) (number kinds.Ptr)) i
   where
     by_test : (b c : Bool) → b || false ≡ true → b || (c || false) ≡ true
     by_test true c h = refl
     by_test false c h = absurd cc
 
 abbrev i32 : Tok
-i32 = word heads.MemoryInteger (codes "i32")
+i32 = word kinds.MemoryInteger (codes "i32")
 
 leaf_right : (room : Room) (t : Tok) (x : Typed) → leaf_means room t ≡ Ok x → leaf whole (t ∷ []) x
 leaf_right room t x e = let s = (leaf_rule room).law.sound (t ∷ []) [] x (ap (token_means t []) e) in one_token s.0 s.1 ((leaf_rule room).law.contains s.0 x s.2)
@@ -109,11 +109,11 @@ leaf_exchanged room = single (leaf whole) (leaf_means room) (refuses_angle (leaf
 pub count_exchanged : Exchanges count count_at
 count_exchanged = plain_valued NUMBER (count_of 64) count_rule refl
 
-pub times_exchanged : Exchanges (the heads.Times) (the_at heads.Times)
-times_exchanged = plain_class heads.Times times_rule refl
+pub times_exchanged : Exchanges (the kinds.Times) (the_at kinds.Times)
+times_exchanged = plain_class kinds.Times times_rule refl
 
 pub brace_behind_angle_exchanged : Exchanges brace_behind_angle brace_behind_angle_at
-brace_behind_angle_exchanged = of_token (is_class tokens angle_refusal (number heads.OpenBrace)) brace_behind_angle_rule (refuses_angle (is_class tokens angle_refusal (number heads.OpenBrace)) OPEN_BRACE angle_refusal (class_outside angle_refusal (number heads.OpenBrace)) refl) (angle_says (number heads.OpenBrace) refl)
+brace_behind_angle_exchanged = of_token (is_class tokens angle_refusal (number kinds.OpenBrace)) brace_behind_angle_rule (refuses_angle (is_class tokens angle_refusal (number kinds.OpenBrace)) OPEN_BRACE angle_refusal (class_outside angle_refusal (number kinds.OpenBrace)) refl) (angle_says (number kinds.OpenBrace) refl)
 
 module _ (of : ℕ → Reader Tok Typed) (of_one : (n : ℕ) → Exchanges any_shape (of n)) where
   elements_exchanged : (line : ℕ) → Exchanges (elements (λ _. any_shape) line) (elements_at of line)
@@ -122,7 +122,7 @@ module _ (of : ℕ → Reader Tok Typed) (of_one : (n : ℕ) → Exchanges any_s
 
   array_exchanged : Exchanges (array_of (λ _. any_shape)) (array_at of)
   unfolding array_of array_at
-  array_exchanged = seq (one_sample OPEN_BRACKET line_of (mark heads.OpenBracket (codes "[")) refl open_bracket_real refl) (λ line. elements_exchanged line)
+  array_exchanged = seq (one_sample OPEN_BRACKET line_of (mark kinds.OpenBracket (codes "[")) refl open_bracket_real refl) (λ line. elements_exchanged line)
 
 module _ (packed : Bool) (part : Extent → Reader Tok Typed) (each : (s : Extent) → Exchanges any_shape (part s)) where
   further_exchanged : (s : Extent) → Exchanges (further packed (λ _. any_shape) s) (further_at packed part s)
@@ -131,7 +131,7 @@ module _ (packed : Bool) (part : Extent → Reader Tok Typed) (each : (s : Exten
 
   further_some : (s : Extent) (x : Written × Extent) → further packed (λ _. any_shape) s [] x → ⊥
   unfolding further
-  further_some s x q = token_begins (is_class tokens refusal (number heads.Comma)) _ x q
+  further_some s x q = token_begins (is_class tokens refusal (number kinds.Comma)) _ x q
 
   chained_exchanged : (s : Extent) → Exchanges (Chain anywhere (further packed (λ _. any_shape)) s) (chain_at anywhere begins (further_at packed part) s)
   chained_exchanged s = chain anywhere (λ _. COMMA) (further packed (λ _. any_shape)) (further_at packed part) further_exchanged further_some (λ _. ([], [], (refl, refl), tt)) (λ _ _. refl) s
@@ -146,7 +146,7 @@ module _ (packed : Bool) (part : Extent → Reader Tok Typed) (each : (s : Exten
 
 structure_exchanged : (part : Extent → Reader Tok Typed) → ((s : Extent) → Exchanges any_shape (part s)) → Exchanges (structure_of (λ _. any_shape)) (structure_at part)
 unfolding structure_of structure_at
-structure_exchanged part each = seq (one_sample OPEN_BRACE line_of (mark heads.OpenBrace (codes "{")) refl open_brace_real refl) (λ line. seq (members_exchanged false part each) (λ parts. nothing _))
+structure_exchanged part each = seq (one_sample OPEN_BRACE line_of (mark kinds.OpenBrace (codes "{")) refl open_brace_real refl) (λ line. seq (members_exchanged false part each) (λ parts. nothing _))
 
 -- ---- `<`, and a number directly behind it
 
@@ -167,14 +167,14 @@ module _ {B : Type 0} {wide : Unit {0} → Form Tok B} {h : Unit {0} → Reader 
   behind_law = seq brace_behind_angle_exchanged laws
 
   begins_some : (x : B) → behind_one [] x → ⊥
-  begins_some x q = token_begins (is_class tokens angle_refusal (number heads.OpenBrace)) wide x q
+  begins_some x q = token_begins (is_class tokens angle_refusal (number kinds.OpenBrace)) wide x q
 
   -- a brace goes on behind `<`
   brace_goes : (u : Tok) × (among tokens OPEN_BRACE u ≡ true) × Goes behind_one [] u
   unfolding form.◌>>=◌ is_class
   brace_goes = let z = behind_law.some in by_some z.0 z.1 z.2 z.3
     where
-      by_test : (v : Tok) (b : Bool) → cond b (fine tt) (Err (angle_refusal (number v.head))) ≡ fine tt → b || false ≡ true
+      by_test : (v : Tok) (b : Bool) → cond b (fine tt) (Err (angle_refusal (number v.kind))) ≡ fine tt → b || false ≡ true
       by_test v true s = refl
       by_test v false s = absurd cc
 
@@ -182,24 +182,24 @@ module _ {B : Type 0} {wide : Unit {0} → Form Tok B} {h : Unit {0} → Reader 
       by_some [] x q r = absurd (begins_some x q)
       by_some (t ∷ more) x ([], back, u, e, s, q) r = absurd s
       by_some (t ∷ more) x (v ∷ w ∷ front, back, u, e, s, q) r = absurd s
-      by_some (t ∷ more) x (v ∷ [], back, u, e, s, q) r = (t, ap (λ (y : Tok). among tokens OPEN_BRACE y) (cons_is t v more back e).0 ∙ by_test v (nat_eq (number v.head) (number heads.OpenBrace)) s, (more, x, (v ∷ [], back, u, e, s, q), r))
+      by_some (t ∷ more) x (v ∷ [], back, u, e, s, q) r = (t, ap (λ (y : Tok). among tokens OPEN_BRACE y) (cons_is t v more back e).0 ∙ by_test v (nat_eq (number v.kind) (number kinds.OpenBrace)) s, (more, x, (v ∷ [], back, u, e, s, q), r))
 
-  number_told : (t : Tok) (rest : List Tok) → nat_eq (number t.head) (number heads.Number) ≡ true → behind_one_at (t ∷ rest) ≡ fault_at Profile (t ∷ rest)
+  number_told : (t : Tok) (rest : List Tok) → nat_eq (number t.kind) (number kinds.Number) ≡ true → behind_one_at (t ∷ rest) ≡ fault_at Profile (t ∷ rest)
   unfolding is_class
-  number_told t rest e = ap (λ (n : ℕ). follow (token_means t rest (cond (nat_eq n (number heads.OpenBrace)) (fine tt) (Err (angle_refusal n)))) h) (same (number t.head) (number heads.Number) e)
+  number_told t rest e = ap (λ (n : ℕ). follow (token_means t rest (cond (nat_eq n (number kinds.OpenBrace)) (fine tt) (Err (angle_refusal n)))) h) (same (number t.kind) (number kinds.Number) e)
 
-  told_number : (k : Head) → nat_eq (number k) (number heads.Number) ≡ true → IsTold true k (Stuck behind_one_at []) (Goes behind_one [])
-  told_number heads.Number e = λ _. brace_goes
+  told_number : (k : TokenKind) → nat_eq (number k) (number kinds.Number) ≡ true → IsTold true k (Stuck behind_one_at []) (Goes behind_one [])
+  told_number kinds.Number e = λ _. brace_goes
   told_number k e = absurd cc
 
-  after_angle : (t : Tok) (rest : List Tok) (o : Result B TokenFault) → behind_one_at (t ∷ rest) ≡ ends o (t ∷ rest) → OutcomeAt false nowhere behind_one behind_one_at true [] t.head o
-  after_angle t rest o d = by_test (nat_eq (number t.head) (number heads.Number)) refl
+  after_angle : (t : Tok) (rest : List Tok) (o : Result B TokenFault) → behind_one_at (t ∷ rest) ≡ ends o (t ∷ rest) → OutcomeAt false nowhere behind_one behind_one_at true [] t.kind o
+  after_angle t rest o d = by_test (nat_eq (number t.kind) (number kinds.Number)) refl
     where
-      by_test : (b : Bool) → nat_eq (number t.head) (number heads.Number) ≡ b → OutcomeAt false nowhere behind_one behind_one_at true [] t.head o
+      by_test : (b : Bool) → nat_eq (number t.kind) (number kinds.Number) ≡ b → OutcomeAt false nowhere behind_one behind_one_at true [] t.kind o
       by_test true e =
           let w = err_ends (record { left = length (t ∷ rest); kind = Profile }) o (t ∷ rest) (sym (number_told t rest e) ∙ d) in
-          subst (λ (x : Result B TokenFault). OutcomeAt false nowhere behind_one behind_one_at true [] t.head x) (ap (λ (x : Fault). Err x.kind) w.2 ∙ sym w.1) (told_number t.head e)
-      by_test false e = same_at false nowhere behind_one behind_one_at [] t.head o e (behind_law.swap [] t rest o d)
+          subst (λ (x : Result B TokenFault). OutcomeAt false nowhere behind_one behind_one_at true [] t.kind x) (ap (λ (x : Fault). Err x.kind) w.2 ∙ sym w.1) (told_number t.kind e)
+      by_test false e = same_at false nowhere behind_one behind_one_at [] t.kind o e (behind_law.swap [] t rest o d)
 
 -- `<`, and `{` behind it
 pub angle_and_brace : {A B : Type 0} {wide : Form Tok A} {f : Reader Tok A} {wide' : A → Unit {0} → Form Tok B} {h : A → Unit {0} → Reader Tok B} → Swaps false true nowhere wide f → ((a : A) (u : Unit {0}) → Exchanges (wide' a u) (h a u)) → Exchanges (form.◌>>=◌ wide (λ a. form.◌>>=◌ brace_behind_angle (wide' a))) (f >>= λ a. brace_behind_angle_at >>= h a)
@@ -207,7 +207,7 @@ angle_and_brace law laws = seq_by false false nowhere law (λ a. behind_law (law
 
 packed_exchanged : (part : Extent → Reader Tok Typed) → ((s : Extent) → Exchanges any_shape (part s)) → Exchanges (packed_of (λ _. any_shape)) (packed_at part)
 unfolding packed_of packed_at packed_behind packed_behind_at
-packed_exchanged part each = angle_and_brace (loose_one OPEN_ANGLE line_of (mark heads.OpenAngle (codes "<")) refl open_angle_real refl) (λ line _. seq (members_exchanged true part each) (λ parts. seq close_angle_exchanged (λ _. nothing _)))
+packed_exchanged part each = angle_and_brace (loose_one OPEN_ANGLE line_of (mark kinds.OpenAngle (codes "<")) refl open_angle_real refl) (λ line _. seq (members_exchanged true part each) (λ parts. seq close_angle_exchanged (λ _. nothing _)))
 
 shape_over_exchanged : (of : ℕ → Reader Tok Typed) → ((n : ℕ) → Exchanges any_shape (of n)) → (part : Bool → Extent → Reader Tok Typed) → ((b : Bool) (s : Extent) → Exchanges any_shape (part b s)) → (innermost : Reader Tok Typed) → Exchanges (leaf whole) innermost
     → Exchanges (shape_over (λ _. any_shape) (λ _ _. any_shape) (leaf whole)) (shape_over_at of part innermost)

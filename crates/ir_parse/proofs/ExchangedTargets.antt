@@ -2,14 +2,14 @@
 use Rattle.std.proofs.Common.{◌≡◌, ℕ, nat_eq, Bool, true, false, cond, ◌||◌, List, [], ◌∷◌, Result, Ok, Err, refl, sym, ap, subst, ◌∙◌, inl}
 use Rattle.std.specs.Prelude.{codes}
 use Rattle.ir_lex.specs.Bytes.{has}
-use Rattle.ir_lex.specs.Heads.{number, head_of, word_head, listed_head, words_3, words_6, words_10, words_15}
+use Rattle.ir_lex.specs.TokenKinds.{number, kind_of, word_kind, listed_kind, words_3, words_6, words_10, words_15}
 use Rattle.ir_lex.specs.Lexing.{is_bad}
 use Rattle.ir_lex.specs.Quotes.{content, unescaped, is_zero_name}
 use Rattle.ir_lex.specs.Rows.{best_fit, rest_fit, label_len, number_len, word_len, name_len, meta_len, dots_len, other_len, string_len}
 use Rattle.ir_lex.specs.Tok.{Tok}
-use Rattle.ir_lex.specs.declared.head.Head.TheVariants as heads
-use Rattle.ir_lex.specs.declared.head.Head.{Head}
-use Rattle.ir_lex.specs.declared.token.Kind.TheVariants as kinds
+use Rattle.ir_lex.specs.declared.token_kind.TokenKind.TheVariants as kinds
+use Rattle.ir_lex.specs.declared.token_kind.TokenKind.{TokenKind}
+use Rattle.ir_lex.specs.declared.token.TokenForm.TheVariants as forms
 use Rattle.ir_read.specs.Alphabet.{among, contains}
 use Rattle.ir_read.specs.Forms as form
 use Rattle.ir_read.specs.Lawful.{IsBound}
@@ -29,67 +29,67 @@ use Rattle.ir_parse.proofs.Exchanged.{Exchanges, Says, alt, nothing, seq, single
 use Rattle.ir_parse.proofs.ExchangedTokens.{elsewhere, i8_real, one_sample, plain_class, not_bound}
 use Rattle.ir_parse.proofs.ExchangedWords.{equals_exchanged, string_exchanged}
 
-any_word_real : IsReal (word heads.Any (codes "any"))
-unfolding best_fit rest_fit label_len number_len word_len name_len meta_len dots_len other_len string_len has is_bad is_zero_name head_of word_head listed_head words_3
+any_word_real : IsReal (word kinds.Any (codes "any"))
+unfolding best_fit rest_fit label_len number_len word_len name_len meta_len dots_len other_len string_len has is_bad is_zero_name kind_of word_kind listed_kind words_3
 any_word_real = record { behind = []; some = refl; fits = refl; good = refl; class = refl }
 
-comdat_name_real : IsReal (sample kinds.Comdat heads.ComdatName (codes "$a"))
-unfolding best_fit rest_fit label_len number_len word_len name_len meta_len dots_len other_len string_len has is_bad is_zero_name head_of
+comdat_name_real : IsReal (sample forms.Comdat kinds.ComdatName (codes "$a"))
+unfolding best_fit rest_fit label_len number_len word_len name_len meta_len dots_len other_len string_len has is_bad is_zero_name kind_of
 comdat_name_real = record { behind = []; some = refl; fits = refl; good = refl; class = refl }
 
-comdat_word_real : IsReal (word heads.Comdat (codes "comdat"))
-unfolding best_fit rest_fit label_len number_len word_len name_len meta_len dots_len other_len string_len has is_bad is_zero_name head_of word_head listed_head words_6
+comdat_word_real : IsReal (word kinds.Comdat (codes "comdat"))
+unfolding best_fit rest_fit label_len number_len word_len name_len meta_len dots_len other_len string_len has is_bad is_zero_name kind_of word_kind listed_kind words_6
 comdat_word_real = record { behind = []; some = refl; fits = refl; good = refl; class = refl }
 
-layout_word_real : IsReal (word heads.Datalayout (codes "datalayout"))
-unfolding best_fit rest_fit label_len number_len word_len name_len meta_len dots_len other_len string_len has is_bad is_zero_name head_of word_head listed_head words_10
+layout_word_real : IsReal (word kinds.Datalayout (codes "datalayout"))
+unfolding best_fit rest_fit label_len number_len word_len name_len meta_len dots_len other_len string_len has is_bad is_zero_name kind_of word_kind listed_kind words_10
 layout_word_real = record { behind = []; some = refl; fits = refl; good = refl; class = refl }
 
-source_word_real : IsReal (word heads.SourceFilename (codes "source_filename"))
-unfolding best_fit rest_fit label_len number_len word_len name_len meta_len dots_len other_len string_len has is_bad is_zero_name head_of word_head listed_head words_15
+source_word_real : IsReal (word kinds.SourceFilename (codes "source_filename"))
+unfolding best_fit rest_fit label_len number_len word_len name_len meta_len dots_len other_len string_len has is_bad is_zero_name kind_of word_kind listed_kind words_15
 source_word_real = record { behind = []; some = refl; fits = refl; good = refl; class = refl }
 
-target_real : IsReal (word heads.Target (codes "target"))
-unfolding best_fit rest_fit label_len number_len word_len name_len meta_len dots_len other_len string_len has is_bad is_zero_name head_of word_head listed_head words_6
+target_real : IsReal (word kinds.Target (codes "target"))
+unfolding best_fit rest_fit label_len number_len word_len name_len meta_len dots_len other_len string_len has is_bad is_zero_name kind_of word_kind listed_kind words_6
 target_real = record { behind = []; some = refl; fits = refl; good = refl; class = refl }
 
-triple_word_real : IsReal (word heads.Triple (codes "triple"))
-unfolding best_fit rest_fit label_len number_len word_len name_len meta_len dots_len other_len string_len has is_bad is_zero_name head_of word_head listed_head words_6
+triple_word_real : IsReal (word kinds.Triple (codes "triple"))
+unfolding best_fit rest_fit label_len number_len word_len name_len meta_len dots_len other_len string_len has is_bad is_zero_name kind_of word_kind listed_kind words_6
 triple_word_real = record { behind = []; some = refl; fits = refl; good = refl; class = refl }
 
-pub target_exchanged : Exchanges (the heads.Target) (the_at heads.Target)
+pub target_exchanged : Exchanges (the kinds.Target) (the_at kinds.Target)
 unfolding is_class
-target_exchanged = plain_class heads.Target (the_rule heads.Target (word heads.Target (codes "target")) refl target_real) refl
+target_exchanged = plain_class kinds.Target (the_rule kinds.Target (word kinds.Target (codes "target")) refl target_real) refl
 
-pub layout_word_exchanged : Exchanges (the heads.Datalayout) (the_at heads.Datalayout)
+pub layout_word_exchanged : Exchanges (the kinds.Datalayout) (the_at kinds.Datalayout)
 unfolding is_class
-layout_word_exchanged = plain_class heads.Datalayout (the_rule heads.Datalayout (word heads.Datalayout (codes "datalayout")) refl layout_word_real) refl
+layout_word_exchanged = plain_class kinds.Datalayout (the_rule kinds.Datalayout (word kinds.Datalayout (codes "datalayout")) refl layout_word_real) refl
 
-pub triple_word_exchanged : Exchanges (the heads.Triple) (the_at heads.Triple)
+pub triple_word_exchanged : Exchanges (the kinds.Triple) (the_at kinds.Triple)
 unfolding is_class
-triple_word_exchanged = plain_class heads.Triple (the_rule heads.Triple (word heads.Triple (codes "triple")) refl triple_word_real) refl
+triple_word_exchanged = plain_class kinds.Triple (the_rule kinds.Triple (word kinds.Triple (codes "triple")) refl triple_word_real) refl
 
-pub source_word_exchanged : Exchanges (the heads.SourceFilename) (the_at heads.SourceFilename)
+pub source_word_exchanged : Exchanges (the kinds.SourceFilename) (the_at kinds.SourceFilename)
 unfolding is_class
-source_word_exchanged = plain_class heads.SourceFilename (the_rule heads.SourceFilename (word heads.SourceFilename (codes "source_filename")) refl source_word_real) refl
+source_word_exchanged = plain_class kinds.SourceFilename (the_rule kinds.SourceFilename (word kinds.SourceFilename (codes "source_filename")) refl source_word_real) refl
 
-pub comdat_word_exchanged : Exchanges (the heads.Comdat) (the_at heads.Comdat)
+pub comdat_word_exchanged : Exchanges (the kinds.Comdat) (the_at kinds.Comdat)
 unfolding is_class
-comdat_word_exchanged = plain_class heads.Comdat (the_rule heads.Comdat (word heads.Comdat (codes "comdat")) refl comdat_word_real) refl
+comdat_word_exchanged = plain_class kinds.Comdat (the_rule kinds.Comdat (word kinds.Comdat (codes "comdat")) refl comdat_word_real) refl
 
-pub any_word_exchanged : Exchanges (the heads.Any) (the_at heads.Any)
+pub any_word_exchanged : Exchanges (the kinds.Any) (the_at kinds.Any)
 unfolding is_class
-any_word_exchanged = plain_class heads.Any (the_rule heads.Any (word heads.Any (codes "any")) refl any_word_real) refl
+any_word_exchanged = plain_class kinds.Any (the_rule kinds.Any (word kinds.Any (codes "any")) refl any_word_real) refl
 
-pub comdat_name_exchanged : Exchanges (the heads.ComdatName) (the_at heads.ComdatName)
+pub comdat_name_exchanged : Exchanges (the kinds.ComdatName) (the_at kinds.ComdatName)
 unfolding is_class
-comdat_name_exchanged = plain_class heads.ComdatName (the_rule heads.ComdatName (sample kinds.Comdat heads.ComdatName (codes "$a")) refl comdat_name_real) refl
+comdat_name_exchanged = plain_class kinds.ComdatName (the_rule kinds.ComdatName (sample forms.Comdat kinds.ComdatName (codes "$a")) refl comdat_name_real) refl
 
 abbrev failed : TokenFault → Result Tok TokenFault
 failed k = Err k
 
 empty_string : Tok
-empty_string = sample kinds.Str heads.Str (codes "\"\"")
+empty_string = sample forms.Str kinds.Str (codes "\"\"")
 
 empty_fits : is_layout empty_string ≡ Ok empty_string
 unfolding is_layout fits_layout fits_item has_64_bits content unescaped empty_string
@@ -101,41 +101,41 @@ empty_real = string_real
 
 layout_stuck : (u : Tok) → among tokens STRING u ≡ false → (k : TokenFault) × (IsBound k → ⊥) × (is_layout u ≡ Err k)
 unfolding is_layout
-layout_stuck u e = (refusal (number u.head), not_bound (number u.head), by_class (nat_eq (number u.head) (number heads.Str)) e)
+layout_stuck u e = (refusal (number u.kind), not_bound (number u.kind), by_class (nat_eq (number u.kind) (number kinds.Str)) e)
   where
-    by_class : (b : Bool) → b || false ≡ false → cond b (cond (fits_layout (content u.kind u.text)) (Ok u) (Err Profile)) (failed (refusal (number u.head))) ≡ failed (refusal (number u.head))
+    by_class : (b : Bool) → b || false ≡ false → cond b (cond (fits_layout (content u.form u.text)) (Ok u) (Err Profile)) (failed (refusal (number u.kind))) ≡ failed (refusal (number u.kind))
     by_class true e = absurd cc
     by_class false e = refl
 
 layout_no_angle : (t a : Tok) → among tokens OPEN_ANGLE t ≡ true → is_layout t ≡ Ok a → ⊥
-layout_no_angle t a i e = let s = layout_stuck t (apart OPEN_ANGLE STRING refl (number t.head) i) in refused s.0 (sym s.2 ∙ e)
+layout_no_angle t a i e = let s = layout_stuck t (apart OPEN_ANGLE STRING refl (number t.kind) i) in refused s.0 (sym s.2 ∙ e)
   where
     refused : (k : TokenFault) → failed k ≡ Ok a → ⊥
     refused k e = cc
 
 no_string : (bs : List ℕ) → disjoint bs STRING ≡ true → (u : Tok) → among tokens bs u ≡ true → (k : TokenFault) × (IsBound k → ⊥) × (is_layout u ≡ Err k)
-no_string bs d u i = layout_stuck u (apart bs STRING d (number u.head) i)
+no_string bs d u i = layout_stuck u (apart bs STRING d (number u.kind) i)
 
 -- where no string stands
-layout_class : (h : Head) → contains STRING (number h) ≡ false → Says (form.token is_layout) is_layout h (refusal (number h))
-layout_class heads.RefusedType n = no_string REG refl
-layout_class heads.Target n = inl (no_string REG refl)
-layout_class heads.RegisterInteger n = (word heads.MemoryInteger (codes "i8"), refl, i8_real, no_string MEMORY refl (word heads.MemoryInteger (codes "i8")) refl)
-layout_class heads.NumberedGlobal n = no_string (number heads.Global ∷ []) refl
-layout_class heads.NumberedDefinition n = no_string (number heads.Global ∷ []) refl
-layout_class heads.LifetimeMarker n = tt
-layout_class heads.Str n = absurd cc
+layout_class : (h : TokenKind) → contains STRING (number h) ≡ false → Says (form.token is_layout) is_layout h (refusal (number h))
+layout_class kinds.RefusedType n = no_string REG refl
+layout_class kinds.Target n = inl (no_string REG refl)
+layout_class kinds.RegisterInteger n = (word kinds.MemoryInteger (codes "i8"), refl, i8_real, no_string MEMORY refl (word kinds.MemoryInteger (codes "i8")) refl)
+layout_class kinds.NumberedGlobal n = no_string (number kinds.Global ∷ []) refl
+layout_class kinds.NumberedDefinition n = no_string (number kinds.Global ∷ []) refl
+layout_class kinds.LifetimeMarker n = tt
+layout_class kinds.Str n = absurd cc
 layout_class h n = elsewhere (form.token is_layout) is_layout h (refusal (number h)) (λ q. cc)
 
 -- where one does that isn't supported, the empty one goes on
-layout_told : (h : Head) → nat_eq (number h) (number heads.Str) ≡ true → Says (form.token is_layout) is_layout h Profile
+layout_told : (h : TokenKind) → nat_eq (number h) (number kinds.Str) ≡ true → Says (form.token is_layout) is_layout h Profile
 unfolding empty_string
-layout_told heads.Str e = (empty_string, refl, ([], empty_string, empty_fits, (empty_real, tt)))
+layout_told kinds.Str e = (empty_string, refl, ([], empty_string, empty_fits, (empty_real, tt)))
 layout_told h e = absurd cc
 
-layout_says : (t : Tok) (k : TokenFault) → is_layout t ≡ Err k → Says (form.token is_layout) is_layout t.head k
+layout_says : (t : Tok) (k : TokenFault) → is_layout t ≡ Err k → Says (form.token is_layout) is_layout t.kind k
 unfolding is_layout
-layout_says t k d = by_class (nat_eq (number t.head) (number heads.Str)) refl d
+layout_says t k d = by_class (nat_eq (number t.kind) (number kinds.Str)) refl d
   where
     err_is : (k l : TokenFault) → failed k ≡ failed l → k ≡ l
     err_is k l e = cc
@@ -144,15 +144,15 @@ layout_says t k d = by_class (nat_eq (number t.head) (number heads.Str)) refl d
     by_fit true e = absurd cc
     by_fit false e = err_is Profile k e
 
-    by_class : (b : Bool) → nat_eq (number t.head) (number heads.Str) ≡ b → cond b (cond (fits_layout (content t.kind t.text)) (Ok t) (failed Profile)) (failed (refusal (number t.head))) ≡ failed k → Says (form.token is_layout) is_layout t.head k
-    by_class true p d = subst (λ (x : TokenFault). Says (form.token is_layout) is_layout t.head x) (by_fit (fits_layout (content t.kind t.text)) d) (layout_told t.head p)
-    by_class false p d = subst (λ (x : TokenFault). Says (form.token is_layout) is_layout t.head x) (err_is (refusal (number t.head)) k d) (layout_class t.head (ap (λ (b : Bool). b || false) p))
+    by_class : (b : Bool) → nat_eq (number t.kind) (number kinds.Str) ≡ b → cond b (cond (fits_layout (content t.form t.text)) (Ok t) (failed Profile)) (failed (refusal (number t.kind))) ≡ failed k → Says (form.token is_layout) is_layout t.kind k
+    by_class true p d = subst (λ (x : TokenFault). Says (form.token is_layout) is_layout t.kind x) (by_fit (fits_layout (content t.form t.text)) d) (layout_told t.kind p)
+    by_class false p d = subst (λ (x : TokenFault). Says (form.token is_layout) is_layout t.kind x) (err_is (refusal (number t.kind)) k d) (layout_class t.kind (ap (λ (b : Bool). b || false) p))
 
 pub layout_exchanged : Exchanges (form.token is_layout) (token_at is_layout)
 layout_exchanged = single (form.token is_layout) is_layout layout_no_angle (λ t a e. e) (empty_string ∷ [], empty_string, empty_fits, (empty_real, tt)) layout_says
 
 pub string_name_exchanged : Exchanges (one_of STRING itself) (one_of_at STRING itself)
-string_name_exchanged = one_sample STRING itself (sample kinds.Str heads.Str (codes "\"\"")) refl string_real refl
+string_name_exchanged = one_sample STRING itself (sample forms.Str kinds.Str (codes "\"\"")) refl string_real refl
 
 pub layout_line_exchanged : Exchanges layout_line layout_line_at
 unfolding layout_line layout_line_at

@@ -2,12 +2,12 @@
 use Rattle.std.proofs.Common.{Option, Some, None, [], refl, ◌≡◌, true, List, ◌∷◌, ap, Result}
 use Rattle.std.specs.Prelude.{codes}
 use Rattle.ir_lex.specs.Bytes.{has}
-use Rattle.ir_lex.specs.Heads.{head_of, word_head, listed_head, words_3}
+use Rattle.ir_lex.specs.TokenKinds.{kind_of, word_kind, listed_kind, words_3}
 use Rattle.ir_lex.specs.Lexing.{is_bad}
 use Rattle.ir_lex.specs.Quotes.{is_zero_name}
 use Rattle.ir_lex.specs.Rows.{best_fit, rest_fit, label_len, number_len, word_len, name_len, meta_len, dots_len, other_len, string_len}
 use Rattle.ir_lex.specs.Tok.{Tok}
-use Rattle.ir_lex.specs.declared.head.Head.TheVariants as heads
+use Rattle.ir_lex.specs.declared.token_kind.TokenKind.TheVariants as kinds
 use Rattle.ir_tree.specs.declared.operand.Reg.TheVariants.{Int, Ptr}
 use Rattle.ir_tree.specs.declared.operand.Reg.{Reg}
 use Rattle.ir_read.specs.Readers.{Reader, fault_at, follow, ◌>>=◌}
@@ -33,8 +33,8 @@ use Rattle.ir_parse.proofs.ExchangedTypes.{Types, all_exchanged as typed_all, ty
 use Rattle.ir_parse.proofs.ExchangedValues.{operand_exchanged}
 use Rattle.ir_parse.proofs.ExchangedWords.{comma_exchanged, label_exchanged, open_bracket_exchanged, close_bracket_exchanged}
 
-ret_real : IsReal (word heads.Ret (codes "ret"))
-unfolding best_fit rest_fit label_len number_len word_len name_len meta_len dots_len other_len string_len has is_bad is_zero_name head_of word_head listed_head words_3
+ret_real : IsReal (word kinds.Ret (codes "ret"))
+unfolding best_fit rest_fit label_len number_len word_len name_len meta_len dots_len other_len string_len has is_bad is_zero_name kind_of word_kind listed_kind words_3
 ret_real = record { behind = []; some = refl; fits = refl; good = refl; class = refl }
 
 pub returned_exchanged : (r : Option Reg) → Exchanges (returned any_shape r) (returned_at r)
@@ -71,7 +71,7 @@ case_types = types_first reg_at (type_told reg_of) _
 
 pub switching_exchanged : Exchanges (switching any_shape) switching_at
 unfolding switching switching_at
-switching_exchanged = seq integer_exchanged (λ w. seq (operand_exchanged (Int w)) (λ value. seq comma_exchanged (λ _. seq target_exchanged (λ to. seq open_bracket_exchanged (λ _. typed_all heads.CloseBracket refl close_bracket_exchanged (λ cs. terminators.Switch w value to cs) case_exchanged (taken case_rule) case_types)))))
+switching_exchanged = seq integer_exchanged (λ w. seq (operand_exchanged (Int w)) (λ value. seq comma_exchanged (λ _. seq target_exchanged (λ to. seq open_bracket_exchanged (λ _. typed_all kinds.CloseBracket refl close_bracket_exchanged (λ cs. terminators.Switch w value to cs) case_exchanged (taken case_rule) case_types)))))
 
 pub behind_end_exchanged : (e : End) → Exchanges (behind_end any_shape e) (behind_end_at e)
 behind_end_exchanged end.Ret = returning_exchanged
@@ -81,9 +81,9 @@ behind_end_exchanged end.Unreachable = nothing _
 
 pub terminator_exchanged : Exchanges (terminator any_shape) terminator_at
 unfolding terminator terminator_at
-terminator_exchanged = seq (one_sample ENDS ending_of (word heads.Ret (codes "ret")) refl ret_real refl) (λ e. seq (behind_end_exchanged e.end) (λ _. seq attachments_exchanged (λ _. nothing _)))
+terminator_exchanged = seq (one_sample ENDS ending_of (word kinds.Ret (codes "ret")) refl ret_real refl) (λ e. seq (behind_end_exchanged e.end) (λ _. seq attachments_exchanged (λ _. nothing _)))
 
 -- it doesn't begin one
-pub terminator_closes : {B : Type 0} (h : Ended → Reader Tok B) (t : Tok) (rest : List Tok) → is_target t.head ≡ true → (terminator_at >>= h) (t ∷ rest) ≡ fault_at Syntax (t ∷ rest)
+pub terminator_closes : {B : Type 0} (h : Ended → Reader Tok B) (t : Tok) (rest : List Tok) → is_target t.kind ≡ true → (terminator_at >>= h) (t ∷ rest) ≡ fault_at Syntax (t ∷ rest)
 unfolding terminator_at
 terminator_closes h t rest q = ap (λ (r : Result (Ended × List Tok) Fault). follow r h) (refused_one _ ENDS ending_of refl t rest q)

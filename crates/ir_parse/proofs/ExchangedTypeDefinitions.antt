@@ -2,11 +2,11 @@
 use Rattle.std.proofs.Common.{[], refl}
 use Rattle.std.specs.Prelude.{codes}
 use Rattle.ir_lex.specs.Bytes.{has}
-use Rattle.ir_lex.specs.Heads.{head_of, word_head, listed_head, words_4, words_6}
+use Rattle.ir_lex.specs.TokenKinds.{kind_of, word_kind, listed_kind, words_4, words_6}
 use Rattle.ir_lex.specs.Lexing.{is_bad}
 use Rattle.ir_lex.specs.Quotes.{is_zero_name}
 use Rattle.ir_lex.specs.Rows.{best_fit, rest_fit, label_len, number_len, word_len, name_len, meta_len, dots_len, other_len, string_len}
-use Rattle.ir_lex.specs.declared.head.Head.TheVariants as heads
+use Rattle.ir_lex.specs.declared.token_kind.TokenKind.TheVariants as kinds
 use Rattle.ir_read.specs.Rules.{is_class}
 use Rattle.ir_read.specs.Classes.{IsReal, the, the_at}
 use Rattle.ir_operands.specs.ShapeForms.{any_shape}
@@ -19,21 +19,21 @@ use Rattle.ir_parse.proofs.ExchangedShapes.{memory_shape_exchanged}
 use Rattle.ir_parse.proofs.ExchangedTokens.{plain_class}
 use Rattle.ir_parse.proofs.ExchangedWords.{equals_exchanged}
 
-opaque_real : IsReal (word heads.Opaque (codes "opaque"))
-unfolding best_fit rest_fit label_len number_len word_len name_len meta_len dots_len other_len string_len has is_bad is_zero_name head_of word_head listed_head words_6
+opaque_real : IsReal (word kinds.Opaque (codes "opaque"))
+unfolding best_fit rest_fit label_len number_len word_len name_len meta_len dots_len other_len string_len has is_bad is_zero_name kind_of word_kind listed_kind words_6
 opaque_real = record { behind = []; some = refl; fits = refl; good = refl; class = refl }
 
-type_real : IsReal (word heads.Type (codes "type"))
-unfolding best_fit rest_fit label_len number_len word_len name_len meta_len dots_len other_len string_len has is_bad is_zero_name head_of word_head listed_head words_4
+type_real : IsReal (word kinds.Type (codes "type"))
+unfolding best_fit rest_fit label_len number_len word_len name_len meta_len dots_len other_len string_len has is_bad is_zero_name kind_of word_kind listed_kind words_4
 type_real = record { behind = []; some = refl; fits = refl; good = refl; class = refl }
 
-pub type_exchanged : Exchanges (the heads.Type) (the_at heads.Type)
+pub type_exchanged : Exchanges (the kinds.Type) (the_at kinds.Type)
 unfolding is_class
-type_exchanged = plain_class heads.Type (the_rule heads.Type (word heads.Type (codes "type")) refl type_real) refl
+type_exchanged = plain_class kinds.Type (the_rule kinds.Type (word kinds.Type (codes "type")) refl type_real) refl
 
-pub opaque_exchanged : Exchanges (the heads.Opaque) (the_at heads.Opaque)
+pub opaque_exchanged : Exchanges (the kinds.Opaque) (the_at kinds.Opaque)
 unfolding is_class
-opaque_exchanged = plain_class heads.Opaque (the_rule heads.Opaque (word heads.Opaque (codes "opaque")) refl opaque_real) refl
+opaque_exchanged = plain_class kinds.Opaque (the_rule kinds.Opaque (word kinds.Opaque (codes "opaque")) refl opaque_real) refl
 
 pub defined_exchanged : Exchanges (defined any_shape) defined_at
 unfolding defined defined_at

@@ -2,11 +2,11 @@
 use Rattle.std.proofs.Common.{ℕ, List, [], ◌∷◌, refl, reverse}
 use Rattle.std.specs.Prelude.{codes}
 use Rattle.ir_lex.specs.Bytes.{has}
-use Rattle.ir_lex.specs.Heads.{number, head_of, word_head, listed_head, words_13}
+use Rattle.ir_lex.specs.TokenKinds.{number, kind_of, word_kind, listed_kind, words_13}
 use Rattle.ir_lex.specs.Lexing.{is_bad}
 use Rattle.ir_lex.specs.Quotes.{is_zero_name}
 use Rattle.ir_lex.specs.Rows.{best_fit, rest_fit, label_len, number_len, word_len, name_len, meta_len, dots_len, other_len, string_len}
-use Rattle.ir_lex.specs.declared.head.Head.TheVariants as heads
+use Rattle.ir_lex.specs.declared.token_kind.TokenKind.TheVariants as kinds
 use Rattle.ir_tree.specs.declared.operand.Reg.{Reg}
 use Rattle.ir_read.proofs.Rules as rules
 use Rattle.ir_read.specs.Forms.{Star}
@@ -29,13 +29,13 @@ use Rattle.ir_parse.proofs.ExchangedShapes.{memory_shape_exchanged}
 use Rattle.ir_parse.proofs.ExchangedTokens.{plain_class, plain_one, plain_valued, type_class}
 use Rattle.ir_parse.proofs.ExchangedWords.{close_paren_exchanged, comma_exchanged, open_paren_exchanged}
 
-get_element_real : IsReal (word heads.GetElementPtr (codes "getelementptr"))
-unfolding best_fit rest_fit label_len number_len word_len name_len meta_len dots_len other_len string_len has is_bad is_zero_name head_of word_head listed_head words_13
+get_element_real : IsReal (word kinds.GetElementPtr (codes "getelementptr"))
+unfolding best_fit rest_fit label_len number_len word_len name_len meta_len dots_len other_len string_len has is_bad is_zero_name kind_of word_kind listed_kind words_13
 get_element_real = record { behind = []; some = refl; fits = refl; good = refl; class = refl }
 
 pub pointer_exchanged : Exchanges pointer pointer_at
 unfolding is_class
-pointer_exchanged = type_class (number heads.Ptr) (rules.class_rule tokens type_refusal type_not_number type_not_limit (number heads.Ptr) (word heads.Ptr (codes "ptr")) refl pointer_real) refl refl (word heads.Ptr (codes "ptr")) refl pointer_real refl
+pointer_exchanged = type_class (number kinds.Ptr) (rules.class_rule tokens type_refusal type_not_number type_not_limit (number kinds.Ptr) (word kinds.Ptr (codes "ptr")) refl pointer_real) refl refl (word kinds.Ptr (codes "ptr")) refl pointer_real refl
 
 pub flag_exchanged : Exchanges (one_of STEPPING is_inbounds) (one_of_at STEPPING is_inbounds)
 flag_exchanged = plain_one STEPPING is_inbounds flag_rule refl
@@ -62,9 +62,9 @@ pub closing_exchanged : (outer : List Typed) → Exchanges (closing outer) (clos
 closing_exchanged [] = nothing []
 closing_exchanged (typed ∷ outer) = seq (closing_one_exchanged typed) (λ one. seq (closing_exchanged outer) (λ more. nothing (one ∷ more)))
 
-pub get_element_exchanged : Exchanges (the heads.GetElementPtr) (the_at heads.GetElementPtr)
+pub get_element_exchanged : Exchanges (the kinds.GetElementPtr) (the_at kinds.GetElementPtr)
 unfolding is_class
-get_element_exchanged = plain_class heads.GetElementPtr (the_rule heads.GetElementPtr (word heads.GetElementPtr (codes "getelementptr")) refl get_element_real) refl
+get_element_exchanged = plain_class kinds.GetElementPtr (the_rule kinds.GetElementPtr (word kinds.GetElementPtr (codes "getelementptr")) refl get_element_real) refl
 
 pub opened_exchanged : Exchanges (opened any_shape) opened_at
 unfolding opened opened_at

@@ -2,8 +2,8 @@
 use Rattle.std.proofs.Common.{◌≡◌, Bool, true, false, Option, None, [], ◌∷◌, refl, ◌∙◌}
 use Rattle.std.specs.Prelude.{codes}
 use Rattle.ir_lex.specs.Tok.{Tok}
-use Rattle.ir_lex.specs.declared.head.Head.TheVariants as heads
-use Rattle.ir_lex.specs.declared.token.Kind.TheVariants as kinds
+use Rattle.ir_lex.specs.declared.token_kind.TokenKind.TheVariants as kinds
+use Rattle.ir_lex.specs.declared.token.TokenForm.TheVariants as forms
 use Rattle.ir_tree.specs.declared.function.Linkage.{Linkage}
 use Rattle.ir_tree.specs.declared.operand.Reg.{Reg}
 use Rattle.ir_read.specs.Alphabet.{among}
@@ -32,13 +32,13 @@ use Rattle.ir_parse.proofs.ExchangedTokens.{name_valued, one_sample, plain_class
 use Rattle.ir_parse.proofs.ExchangedWords.{align_exchanged, close_paren_exchanged, comma_exchanged, equals_exchanged, open_paren_exchanged}
 
 abbrev a_global : Tok
-a_global = sample kinds.Global heads.Global (codes "@a")
+a_global = sample forms.Global kinds.Global (codes "@a")
 
 pub variable_name_exchanged : Exchanges any_variable_name variable_name_at
 variable_name_exchanged = recast any_name (name_valued NAMES global_named (named_rule NAMES refl) refl a_global a_global refl refl refl global_real)
 
 pub linkage_word_exchanged : Exchanges (one_of LINKAGES linkage_word) (one_of_at LINKAGES linkage_word)
-linkage_word_exchanged = one_sample LINKAGES linkage_word (word heads.External (codes "external")) refl external_real refl
+linkage_word_exchanged = one_sample LINKAGES linkage_word (word kinds.External (codes "external")) refl external_real refl
 
 pub qualifier_word_exchanged : Exchanges (one_of QUALIFIERS nothing_of) (one_of_at QUALIFIERS nothing_of)
 qualifier_word_exchanged = plain_one QUALIFIERS nothing_of qualifier_word_rule refl
@@ -52,19 +52,19 @@ unfolding linked linked_at
 linked_exchanged = seq (maybe LINKAGES refl linkage_word_exchanged) (λ l. seq qualifiers_exchanged (λ _. nothing l))
 
 pub kind_exchanged : Exchanges (one_of KINDS is_constant) (one_of_at KINDS is_constant)
-kind_exchanged = one_sample KINDS is_constant (word heads.GlobalVariable (codes "global")) refl constant_real refl
+kind_exchanged = one_sample KINDS is_constant (word kinds.GlobalVariable (codes "global")) refl constant_real refl
 
 pub value_exchanged : (declared : Bool) (scalar : Option Reg) → Exchanges (value any_shape declared scalar) (value_at declared scalar)
 value_exchanged true scalar = nothing None
 value_exchanged false scalar = seq (initialiser_exchanged scalar) (λ _. nothing _)
 
-pub comdat_exchanged : Exchanges (the heads.Comdat) (the_at heads.Comdat)
+pub comdat_exchanged : Exchanges (the kinds.Comdat) (the_at kinds.Comdat)
 unfolding is_class
-comdat_exchanged = plain_class heads.Comdat (the_rule heads.Comdat (word heads.Comdat (codes "comdat")) refl comdat_real) refl
+comdat_exchanged = plain_class kinds.Comdat (the_rule kinds.Comdat (word kinds.Comdat (codes "comdat")) refl comdat_real) refl
 
-pub named_comdat_exchanged : Exchanges (the heads.ComdatName) (the_at heads.ComdatName)
+pub named_comdat_exchanged : Exchanges (the kinds.ComdatName) (the_at kinds.ComdatName)
 unfolding is_class
-named_comdat_exchanged = plain_class heads.ComdatName (the_rule heads.ComdatName (sample kinds.Comdat heads.ComdatName (codes "$a")) refl named_comdat_real) refl
+named_comdat_exchanged = plain_class kinds.ComdatName (the_rule kinds.ComdatName (sample forms.Comdat kinds.ComdatName (codes "$a")) refl named_comdat_real) refl
 
 pub comdat_name_exchanged : Exchanges comdat_name comdat_name_at
 unfolding comdat_name comdat_name_at

@@ -6,7 +6,7 @@ use Rattle.std.proofs.lemmas.List.{map-append}
 use Rattle.std.proofs.lemmas.List.Elements.{All-from_recursion, recursion_from_All}
 use Rattle.ir_lex.specs.Tok.{Tok}
 use Rattle.ir_read.specs.declared.raw.Block as raw_block
-use Rattle.ir_read.specs.declared.raw.Head as raw_head
+use Rattle.ir_read.specs.declared.raw.FunctionHeader as raw_head
 use Rattle.ir_read.specs.declared.raw.Variable as raw_variable
 use Rattle.ir_read.specs.declared.raw.Item.{Item}
 use Rattle.ir_read.specs.declared.raw.Item.TheVariants as item
@@ -24,7 +24,7 @@ use Rattle.named_values.specs.Blocks.{function_in}
 use Rattle.ir_names.specs.Globals.{Globals, no_globals}
 use Rattle.ir_names.specs.Groups.{groups_of, is_noinline, is_optnone}
 use Rattle.ir_names.specs.Marks.{all, block_marks, item_marks, marks_of, typed_marks, init_marks}
-use Rattle.ir_names.specs.Settled.{◌>>=◌}
+use Rattle.ir_names.specs.Resolving.{◌>>=◌}
 use Rattle.ir_names.specs.Stages.{global_names, globals_named, marks_within}
 use Rattle.ir_names.specs.Symbols.{symbol_name, symbol_of}
 use Rattle.ir_names.specs.TypeNames.{type_names}
@@ -77,7 +77,7 @@ if_ok : {A E : Type 0} (P : A → Type 0) (r : Result A E) (x : A) → IfOk r P 
 if_ok P r x h e = subst (λ (q : Result _ _). IfOk q P) e h
 
 module _ (functions : FunctionsAreFormed) (variables : VariablesAreFormed) (lines : LinesFit) (types : Types) (are : TypesWritten types) (groups : Groups) (known : List Symbol) where
-  record FunctionGood (head : raw_head.Head) (blocks : List raw_block.Block) (f : Function) : Type 0 where
+  record FunctionGood (head : raw_head.FunctionHeader) (blocks : List raw_block.Block) (f : Function) : Type 0 where
     formed : Formed f
     symbol : f.symbol ≡ symbol_of head.name
     used : FunctionKnown known f
@@ -88,7 +88,7 @@ module _ (functions : FunctionsAreFormed) (variables : VariablesAreFormed) (line
     symbol : r.symbol ≡ symbol_of v.name
     used : VariableKnown known r
 
-  function_good : (head : raw_head.Head) (blocks : List raw_block.Block) (noinline optnone : Bool) → IsWritten head blocks noinline optnone → MarksKnown known (all block_marks blocks)
+  function_good : (head : raw_head.FunctionHeader) (blocks : List raw_block.Block) (noinline optnone : Bool) → IsWritten head blocks noinline optnone → MarksKnown known (all block_marks blocks)
       → Gives (function_in types head blocks noinline optnone) (FunctionGood head blocks)
   function_good head blocks noinline optnone w h = record {
     given = λ f e. record {

@@ -4,7 +4,7 @@ use Rattle.std.specs.Prelude.{slice_get}
 use Rattle.std.specs.List.{AllByRecursion as Each}
 use Rattle.std.proofs.lemmas.List.Elements.{All-from_recursion, recursion_from_All}
 use Rattle.ir_read.specs.declared.raw.Block as raw_block
-use Rattle.ir_read.specs.declared.raw.Head.{Head}
+use Rattle.ir_read.specs.declared.raw.FunctionHeader.{FunctionHeader}
 use Rattle.ir_read.specs.declared.raw.Param as raw_param
 use Rattle.ir_tree.specs.Flow.{holds, locals}
 use Rattle.ir_tree.specs.Formed.{Distinct, Formed, IsBlock, IsLocal, IsReg, numbers}
@@ -12,7 +12,7 @@ use Rattle.ir_tree.specs.declared.block.Block as tree_block
 use Rattle.ir_tree.specs.declared.function.Function.{Function}
 use Rattle.ir_names.specs.declared.locals.Sort.TheVariants.{Value, Block}
 use Rattle.named_values.specs.Blocks.{blocks_in, blocks_of, function_in, params_from}
-use Rattle.ir_names.specs.Locals.{Known}
+use Rattle.ir_names.specs.Locals.{LocalTable}
 use Rattle.ir_names.specs.Symbols.{symbol_of}
 use Rattle.ir_names.specs.Types.{Types}
 use Rattle.ir_parse.specs.Resolved.{DefinitionsDiffer, FunctionsAreFormed}
@@ -26,7 +26,7 @@ use Rattle.ir_parse.proofs.Uses.{IsPlace}
 -- ---- blocks with what is known
 
 record Resolved (types : Types) (params : List raw_param.Param) (blocks : List raw_block.Block) (bs : List tree_block.Block) : Type 0 where
-  known : Known
+  known : LocalTable
   sorts : HasSorts (text_sorts params blocks) known
   are : blocks_in types known (length params) blocks ≡ Ok bs
 
@@ -40,7 +40,7 @@ placed types params blocks bs r = (blocks_placed types r.known (length params) b
 
 -- ---- the function of these blocks
 
-abbrev made : Head → Bool → Bool → List tree_block.Block → Function
+abbrev made : FunctionHeader → Bool → Bool → List tree_block.Block → Function
 made head noinline optnone bs =
     record { symbol = symbol_of head.name; linkage = head.linkage; result = head.result; params = params_from 0 head.params; noinline = noinline; optnone = optnone; blocks = bs }
 
@@ -54,7 +54,7 @@ empty_before n [] bs h e = refl
 empty_before n (b ∷ blocks) [] h e = let none : [] ≡ n ∷ _ = h.numbers in absurd cc
 empty_before n (b ∷ blocks) (t ∷ ts) h e = absurd cc
 
-module _ (types : Types) (head : Head) (blocks : List raw_block.Block) (noinline optnone : Bool) (bs : List tree_block.Block) (r : Resolved types head.params blocks bs) where
+module _ (types : Types) (head : FunctionHeader) (blocks : List raw_block.Block) (noinline optnone : Bool) (bs : List tree_block.Block) (r : Resolved types head.params blocks bs) where
   abbrev f : Function
   f = made head noinline optnone bs
 

@@ -2,14 +2,14 @@
 use Rattle.std.proofs.Common.{◌≡◌, ℕ, Bool, true, false, [], Option, Some, None, refl}
 use Rattle.std.specs.List.{AllByRecursion as Each}
 use Rattle.std.specs.Prelude.{IfSome}
-use Rattle.ir_lex.specs.Heads.{number}
-use Rattle.ir_lex.specs.declared.head.Head as class
-use Rattle.ir_lex.specs.declared.head.Head.TheVariants as heads
+use Rattle.ir_lex.specs.TokenKinds.{number}
+use Rattle.ir_lex.specs.declared.token_kind.TokenKind as class
+use Rattle.ir_lex.specs.declared.token_kind.TokenKind.TheVariants as kinds
 use Rattle.ir_read.specs.Alphabet.{contains}
 use Rattle.ir_heads.specs.FunctionHeads.{further_param, head, leading, linkage_by, linkages_of, linking, listed_params, param, params, prefix, qualifying, some_params, with_linkage}
 use Rattle.ir_heads.specs.declared.function_heads.Role.{Role}
 use Rattle.ir_heads.specs.declared.function_heads.Role.TheVariants as roles
-use Rattle.ir_read.specs.declared.raw.Head.{Head}
+use Rattle.ir_read.specs.declared.raw.FunctionHeader.{FunctionHeader}
 use Rattle.ir_read.specs.declared.raw.Param.{Param}
 use Rattle.ir_tree.specs.Formed.{IsReg, IsResult}
 use Rattle.ir_tree.specs.declared.function.Linkage.{Linkage}
@@ -24,17 +24,17 @@ abbrev pub Linked : Role → Linkage → Type 0
 Linked roles.Declaration l = l ≡ External
 Linked roles.Definition l = Unit {0}
 
-external_by : (h : class.Head) → contains (linkages_of roles.Declaration) (number h) ≡ true → linkage_by h ≡ External
-external_by heads.Private c = absurd cc
-external_by heads.Internal c = absurd cc
-external_by heads.Linkonce c = absurd cc
-external_by heads.LinkonceOdr c = absurd cc
-external_by heads.Weak c = absurd cc
-external_by heads.WeakOdr c = absurd cc
-external_by heads.AvailableExternally c = absurd cc
+external_by : (h : class.TokenKind) → contains (linkages_of roles.Declaration) (number h) ≡ true → linkage_by h ≡ External
+external_by kinds.Private c = absurd cc
+external_by kinds.Internal c = absurd cc
+external_by kinds.Linkonce c = absurd cc
+external_by kinds.LinkonceOdr c = absurd cc
+external_by kinds.Weak c = absurd cc
+external_by kinds.WeakOdr c = absurd cc
+external_by kinds.AvailableExternally c = absurd cc
 external_by h c = refl
 
-linked_by : (role : Role) (h : class.Head) → contains (linkages_of role) (number h) ≡ true → Linked role (linkage_by h)
+linked_by : (role : Role) (h : class.TokenKind) → contains (linkages_of role) (number h) ≡ true → Linked role (linkage_by h)
 linked_by roles.Declaration h c = external_by h c
 linked_by roles.Definition h c = tt
 
@@ -45,7 +45,7 @@ external_linked roles.Definition = tt
 module _ (role : Role) where
   linking_written : Means (linking role) (λ x. IfSome x.0 (Linked role))
   unfolding linking
-  linking_written = follow {P = Linked role} (among_means _ _ _ (λ t s c. linked_by role t.head c)) (λ l h. nothing h)
+  linking_written = follow {P = Linked role} (among_means _ _ _ (λ t s c. linked_by role t.kind c)) (λ l h. nothing h)
 
   qualifying_written : (linked : Bool) → Means (qualifying linked) (λ x. IfSome x.0 (Linked role))
   unfolding qualifying
@@ -93,7 +93,7 @@ params_written room = skip _ (λ _. listed_written room)
 -- ---- heads
 
 -- attributes stand behind a head
-pub record IsHead (role : Role) (h : Head) : Type 0 where
+pub record IsHead (role : Role) (h : FunctionHeader) : Type 0 where
   pub linkage : Linked role h.linkage
   pub result : IsResult h.result
   pub params : Each (λ p. IsReg p.reg) h.params

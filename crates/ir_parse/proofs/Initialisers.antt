@@ -6,8 +6,8 @@ use Rattle.ir_globals.specs.Constants.{constant, constant_by, number_of, plain, 
 use Rattle.ir_globals.specs.Initialisers.{aggregate_begin, aggregate_of, array_begin, beginning, begun, behind, bytes, closed, initialiser, listed, packed_begin, part, part_shape, parts, piece, scalar_of, structure_begin, zeros}
 use Rattle.ir_globals.specs.declared.initialisers.Aggregate.{Aggregate}
 use Rattle.ir_lex.specs.Tok.{Tok}
-use Rattle.ir_lex.specs.declared.head.Head.{Head}
-use Rattle.ir_lex.specs.declared.head.Head.TheVariants as heads
+use Rattle.ir_lex.specs.declared.token_kind.TokenKind.{TokenKind}
+use Rattle.ir_lex.specs.declared.token_kind.TokenKind.TheVariants as kinds
 use Rattle.ir_read.proofs.LiteralRange.{literal_fits}
 use Rattle.ir_read.specs.Literals.{literal}
 use Rattle.ir_operands.specs.ShapeForms.{memory_shape}
@@ -51,19 +51,19 @@ type_written : (scalar : Option Reg) → IsResult scalar → IsReg (type_of scal
 type_written (Some r) h = h
 type_written None h = one_bit
 
-constant_class : (head : Head) (scalar : Option Reg) → IsResult scalar → (t : Tok) (o : InitHead) → constant_by head scalar t ≡ Some o → HeadWritten o
-constant_class heads.Number scalar h t o e = number_written scalar h t o e
-constant_class heads.True scalar h t o e = let same : plain (operands.Number 1 1) ≡ o = cc in subst HeadWritten same (one_bit, omega arith)
-constant_class heads.False scalar h t o e = zero_bit o e
-constant_class heads.Null scalar h t o e = let same : plain operands.Null ≡ o = cc in subst HeadWritten same tt
-constant_class heads.Poison scalar h t o e = let same : plain (operands.Poison (type_of scalar)) ≡ o = cc in subst HeadWritten same (type_written scalar h)
-constant_class heads.Global scalar h t o e = let same : plain (operands.Global t) ≡ o = cc in subst HeadWritten same tt
-constant_class heads.NumberedGlobal scalar h t o e = let m = mapped (λ (name : Tok). plain (operands.Global name)) (named t) o e in subst HeadWritten m.2 tt
-constant_class heads.NumberedDefinition scalar h t o e = let m = mapped (λ (name : Tok). plain (operands.Global name)) (named t) o e in subst HeadWritten m.2 tt
+constant_class : (head : TokenKind) (scalar : Option Reg) → IsResult scalar → (t : Tok) (o : InitHead) → constant_by head scalar t ≡ Some o → HeadWritten o
+constant_class kinds.Number scalar h t o e = number_written scalar h t o e
+constant_class kinds.True scalar h t o e = let same : plain (operands.Number 1 1) ≡ o = cc in subst HeadWritten same (one_bit, omega arith)
+constant_class kinds.False scalar h t o e = zero_bit o e
+constant_class kinds.Null scalar h t o e = let same : plain operands.Null ≡ o = cc in subst HeadWritten same tt
+constant_class kinds.Poison scalar h t o e = let same : plain (operands.Poison (type_of scalar)) ≡ o = cc in subst HeadWritten same (type_written scalar h)
+constant_class kinds.Global scalar h t o e = let same : plain (operands.Global t) ≡ o = cc in subst HeadWritten same tt
+constant_class kinds.NumberedGlobal scalar h t o e = let m = mapped (λ (name : Tok). plain (operands.Global name)) (named t) o e in subst HeadWritten m.2 tt
+constant_class kinds.NumberedDefinition scalar h t o e = let m = mapped (λ (name : Tok). plain (operands.Global name)) (named t) o e in subst HeadWritten m.2 tt
 constant_class head scalar h t o e = absurd cc
 
 single_written : (scalar : Option Reg) → IsResult scalar → Means (single scalar) HeadWritten
-single_written scalar h = valued_means _ _ (λ t o s e. constant_class t.head scalar h t o e)
+single_written scalar h = valued_means _ _ (λ t o s e. constant_class t.kind scalar h t o e)
 
 constant_written : (scalar : Option Reg) → IsResult scalar → Means (constant memory_shape scalar) HeadWritten
 unfolding constant

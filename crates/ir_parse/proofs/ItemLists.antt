@@ -3,11 +3,11 @@ use Rattle.std.proofs.Common.{ℕ, zero, suc, nat_eq, if◌then◌else◌, Bool,
 use Rattle.std.specs.List.{AllByRecursion as Each}
 use Rattle.std.specs.Prelude.{IfSome}
 use Rattle.std.proofs.lemmas.List.Elements.{All-nil, All-from_recursion, recursion_from_All}
-use Rattle.ir_parse.specs.ItemForms.{Found, attribute_behind, beside, declaration, declared, items, keep, kept, left_out, metadata_there, named, named_within, naming, other, piece, placed, plainly, unnamed}
+use Rattle.ir_parse.specs.ItemForms.{ParsedItem, attribute_behind, beside, declaration, declared, items, keep, kept, left_out, metadata_there, named, named_within, naming, other, piece, placed, plainly, unnamed}
 use Rattle.ir_parse.specs.Modules.{FURTHER_PARAMETERS, GLOBAL_NAMES, whole_module}
-use Rattle.ir_lex.specs.Heads.{number}
+use Rattle.ir_lex.specs.TokenKinds.{number}
 use Rattle.ir_lex.specs.Tok.{Tok}
-use Rattle.ir_lex.specs.declared.head.Head.TheVariants as heads
+use Rattle.ir_lex.specs.declared.token_kind.TokenKind.TheVariants as kinds
 use Rattle.ir_read.specs.Forms.{Form}
 use Rattle.ir_heads.specs.Attributes.{attribute_group}
 use Rattle.ir_operands.specs.ShapeForms.{memory_shape}
@@ -16,7 +16,7 @@ use Rattle.ir_heads.specs.declared.function_heads.Role.TheVariants as roles
 use Rattle.ir_read.specs.declared.places.Before.{Before}
 use Rattle.ir_read.specs.declared.places.Before.TheVariants as befores
 use Rattle.ir_read.specs.declared.places.Position.{Position}
-use Rattle.ir_read.specs.declared.raw.Head.{Head}
+use Rattle.ir_read.specs.declared.raw.FunctionHeader.{FunctionHeader}
 use Rattle.ir_read.specs.declared.raw.Item.{Item}
 use Rattle.ir_read.specs.declared.raw.Item.TheVariants.{Declaration}
 use Rattle.ir_tree.specs.Formed.{IsReg}
@@ -32,7 +32,7 @@ use Rattle.ir_parse.proofs.Variables.{type_written, variable_written}
 abbrev KeptWritten : Option Item → Type 0
 KeptWritten i = IfSome i ItemWritten
 
-abbrev FoundWritten : Found → Type 0
+abbrev FoundWritten : ParsedItem → Type 0
 FoundWritten x = KeptWritten x.0
 
 left_out_written : (g : Form Tok (Unit {0})) → Means (left_out g) FoundWritten
@@ -90,8 +90,8 @@ beside_written before = either_means (metadata_written before) (plainly_written 
 
 -- ---- items that do
 
-declared_written : (h : Head) → IsHead roles.Declaration h → KeptWritten (declared h)
-declared_written h is = by (nat_eq (number h.name.head) (number heads.LifetimeMarker))
+declared_written : (h : FunctionHeader) → IsHead roles.Declaration h → KeptWritten (declared h)
+declared_written h is = by (nat_eq (number h.name.kind) (number kinds.LifetimeMarker))
   where
     by : (b : Bool) → KeptWritten (if b then None else Some (Declaration h))
     by true = tt

@@ -2,8 +2,8 @@
 use Rattle.std.proofs.Common.{◌≡◌, ℕ, zero, suc, ◌-◌, Bool, true, false, cond, ◌||◌, ◌⊎◌, nat_eq, Option, Some, List, [], ◌∷◌, ◌++◌, refl, sym, ap, inl, inr, arith}
 use Rattle.std.specs.Prelude.{codes}
 use Rattle.ir_lex.specs.Bytes.{has}
-use Rattle.ir_lex.specs.declared.head.Head.TheVariants as heads
-use Rattle.ir_lex.specs.Heads.{number, head_of, word_head, listed_head, words_7}
+use Rattle.ir_lex.specs.declared.token_kind.TokenKind.TheVariants as kinds
+use Rattle.ir_lex.specs.TokenKinds.{number, kind_of, word_kind, listed_kind, words_7}
 use Rattle.ir_lex.specs.Lexing.{is_bad}
 use Rattle.ir_lex.specs.Quotes.{is_zero_name}
 use Rattle.ir_lex.specs.Tok.{Tok}
@@ -48,7 +48,7 @@ use Rattle.ir_heads.proofs.TargetRules.{target_line_rule, source_line_rule, comd
 
 -- what may go on behind an item, or an attribute behind a declaration's head
 abbrev pub MORE : List ℕ
-MORE = number heads.Number ∷ number heads.Equals ∷ number heads.Comma ∷ BRACES
+MORE = number kinds.Number ∷ number kinds.Equals ∷ number kinds.Comma ∷ BRACES
 
 unnamed_rule : Rule tokens (unnamed memory_shape) (unnamed any_shape) unnamed_at UNNAMED [] false
 unfolding unnamed unnamed_at left_out left_out_at kept kept_at
@@ -90,13 +90,13 @@ beside_rule befores.Name = rules.broader tokens _ MORE (rules.alt tokens META (m
 
 -- ---- items that define or declare a global name
 
-declare_real : IsReal (word heads.Declare (codes "declare"))
-unfolding best_fit rest_fit label_len number_len word_len name_len meta_len dots_len other_len string_len has is_bad is_zero_name head_of word_head listed_head words_7
+declare_real : IsReal (word kinds.Declare (codes "declare"))
+unfolding best_fit rest_fit label_len number_len word_len name_len meta_len dots_len other_len string_len has is_bad is_zero_name kind_of word_kind listed_kind words_7
 declare_real = record { behind = []; some = refl; fits = refl; good = refl; class = refl }
 
-declare_rule : Rule tokens (the heads.Declare) (the heads.Declare) (the_at heads.Declare) DECLARE [] false
+declare_rule : Rule tokens (the kinds.Declare) (the kinds.Declare) (the_at kinds.Declare) DECLARE [] false
 unfolding is_class
-declare_rule = the_rule heads.Declare (word heads.Declare (codes "declare")) refl declare_real
+declare_rule = the_rule kinds.Declare (word kinds.Declare (codes "declare")) refl declare_real
 
 attached_before_rule : Rule tokens attached_before attached_before attached_before_at META (PAREN ++ META) true
 unfolding attached_before attached_before_at
@@ -108,7 +108,7 @@ declaration_rule room = rules.seq tokens declare_rule (λ _. rules.seq tokens at
 
 any_declaration_opens : Opens tokens DECLARE any_declaration
 unfolding any_declaration
-any_declaration_opens = rules.opens_seq tokens DECLARE (the heads.Declare) (the_opens heads.Declare) (λ _. rules.seq tokens attached_before_rule (λ _. rules.seq tokens (head_rule roles.Declaration 0) (λ h. rules.nothing tokens _) refl) refl)
+any_declaration_opens = rules.opens_seq tokens DECLARE (the kinds.Declare) (the_opens kinds.Declare) (λ _. rules.seq tokens attached_before_rule (λ _. rules.seq tokens (head_rule roles.Declaration 0) (λ h. rules.nothing tokens _) refl) refl)
 
 any_variable_opens : Opens tokens NAMES (kept (variable_line any_variable_name any_shape))
 unfolding kept
@@ -178,7 +178,7 @@ full_rule room before d = record {
   law = widened tokens (among tokens (NAMING ++ (META ++ plain_beginnings before))) (among tokens MORE)
       (barred_here tokens (piece room before 0) (other any_shape before 0) (any_piece before 0) (other_at before 0) (among tokens NAMING) (among tokens (META ++ plain_beginnings before)) (among tokens MORE) (unnaming_rule room before).law (otherwise before) (unnaming_or_begun before) (λ t u n m. inl (ap (contains NAMING) (sym m))) without
       (any_piece_opens before 0))
-      (λ t e. contains-append NAMING (META ++ plain_beginnings before) (number t.head) (or_parts (among tokens (META ++ plain_beginnings before) t) (among tokens NAMING t) e)) (λ t e. e);
+      (λ t e. contains-append NAMING (META ++ plain_beginnings before) (number t.kind) (or_parts (among tokens (META ++ plain_beginnings before) t) (among tokens NAMING t) e)) (λ t e. e);
 }
   where
     or_parts : (a b : Bool) → a || b ≡ true → (b ≡ true) ⊎ (a ≡ true)
@@ -190,7 +190,7 @@ full_rule room before d = record {
     is_false false never = refl
 
     without : (t : Tok) (ts : List Tok) (a : Option Item × Position) → other any_shape before 0 (t ∷ ts) a → among tokens NAMING t ≡ false
-    without t ts a s = is_false (among tokens NAMING t) (λ p. apart_from (META ++ plain_beginnings before) NAMING d (number t.head) ((unnaming_rule room before).law.broad.starts t ts a s) p)
+    without t ts a s = is_false (among tokens NAMING t) (λ p. apart_from (META ++ plain_beginnings before) NAMING d (number t.kind) ((unnaming_rule room before).law.broad.starts t ts a s) p)
 
 not_zero : (n : ℕ) → nat_eq (suc n) 0 ≡ false
 not_zero n = grind arith
@@ -234,9 +234,9 @@ there_rule room at = piece_rule room at.before at.names
 chain_rule : (room names : ℕ) → Rule tokens (Chain anywhere (λ at. piece room at.before at.names) (first_place names)) (Chain anywhere (λ at. any_piece at.before at.names) (first_place names)) (chain_at anywhere begins_there (there_at room) (first_place names)) ITEM ANY true
 chain_rule room names = record {
   law = chain_lawful tokens anywhere begins_there begins_there (λ _. among tokens MORE) (among tokens ANY) (λ at. piece room at.before at.names) (λ at. any_piece at.before at.names) (there_at room) (λ at. (there_rule room at).law) (λ at t u n m. ap (contains (beginnings at.before)) (sym m)) (λ at t d e. e)
-      (λ at next front a g t p q. apart_from MORE (beginnings next.before) (apart_there next.before) (number t.head) p q)
-      (λ at t p. within_of MORE ANY refl (number t.head) p)
-      (λ at t d p. within_of (beginnings at.before) ANY (any_there at.before) (number t.head) p)
+      (λ at next front a g t p q. apart_from MORE (beginnings next.before) (apart_there next.before) (number t.kind) p q)
+      (λ at t p. within_of MORE ANY refl (number t.kind) p)
+      (λ at t d p. within_of (beginnings at.before) ANY (any_there at.before) (number t.kind) p)
       (λ at. ([], [], (refl, refl), tt)) (first_place names);
 }
 

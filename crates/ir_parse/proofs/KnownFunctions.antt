@@ -5,11 +5,11 @@ use Rattle.std.specs.List.{AllByRecursion as Each}
 use Rattle.std.proofs.lemmas.List.Elements.{All-from_recursion}
 use Rattle.ir_read.specs.declared.raw.Argument as raw_argument
 use Rattle.ir_read.specs.declared.raw.Block as raw_block
-use Rattle.ir_read.specs.declared.raw.Head as raw_head
+use Rattle.ir_read.specs.declared.raw.FunctionHeader as raw_head
 use Rattle.ir_read.specs.declared.raw.Incoming as raw_incoming
 use Rattle.ir_read.specs.declared.raw.Instr as raw_instr
 use Rattle.ir_read.specs.declared.raw.Instr.TheVariants as ri
-use Rattle.ir_read.specs.declared.raw.Line as raw_line
+use Rattle.ir_read.specs.declared.raw.WrittenLine as raw_line
 use Rattle.ir_read.specs.declared.raw.Operand as raw_operand
 use Rattle.ir_read.specs.declared.raw.Operand.TheVariants as ro
 use Rattle.ir_read.specs.declared.raw.Terminator as raw_end
@@ -34,10 +34,10 @@ use Rattle.ir_names.specs.declared.locals.Sort.TheVariants.{Value, Block}
 use Rattle.ir_names.specs.Addresses.{offset_behind}
 use Rattle.named_values.specs.Blocks.{phi_of, phis_of, rest_of, phi_before, lines_behind, body_of, block_of, block_in, blocks_in, blocks_of, behind_block, function_in, params_from}
 use Rattle.ir_names.specs.Bodies.{align_or, allocated, argument_in, behind_line, case_in, end_in, incoming_in, instr_in, lines_in, local_at, operand_in, reg_align}
-use Rattle.ir_names.specs.Locals.{Known, number_in}
+use Rattle.ir_names.specs.Locals.{LocalTable, number_in}
 use Rattle.ir_names.specs.Marks.{all, both, block_marks, end_marks, instr_marks, operand_marks, uses}
 use Rattle.ir_names.specs.Numbering.{locals_of}
-use Rattle.ir_names.specs.Settled.{each}
+use Rattle.ir_names.specs.Resolving.{each}
 use Rattle.ir_names.specs.Symbols.{symbol_of}
 use Rattle.ir_names.specs.Types.{Types, expanded}
 use Rattle.ir_parse.proofs.Gives.{Gives, gives, bind, bind_each, whatever}
@@ -70,7 +70,7 @@ taken_known known reg (e ∷ es) h = (h.0, taken_known known reg es h.1)
 
 -- ---- operands, lines and terminators
 
-module _ (types : Types) (locals : Known) (known : List Symbol) where
+module _ (types : Types) (locals : LocalTable) (known : List Symbol) where
   first_of : (left right : raw_operand.Operand) → MarksKnown known (both left right) → MarksKnown known (operand_marks left)
   first_of left right h = front_of (MarkKnown known) (operand_marks left) (operand_marks right) h
 
@@ -155,7 +155,7 @@ module _ (types : Types) (locals : Known) (known : List Symbol) where
       gives (EndKnown known) (te.Switch width v d cs) (hv, tt))))
   end_known re.Unreachable h = gives (EndKnown known) te.Unreachable tt
 
-  lines_known : (n : ℕ) (ls : List raw_line.Line) → MarksKnown known (all (λ l. instr_marks l.instr) ls) → Gives (lines_in types locals n ls) (Each (LineKnown known))
+  lines_known : (n : ℕ) (ls : List raw_line.WrittenLine) → MarksKnown known (all (λ l. instr_marks l.instr) ls) → Gives (lines_in types locals n ls) (Each (LineKnown known))
   lines_known n [] h = gives (Each (LineKnown known)) [] tt
   lines_known n (l ∷ ls) h =
       bind (InstrKnown known) (Each (LineKnown known)) _ _ (instr_known l.instr (front_of (MarkKnown known) (instr_marks l.instr) (all (λ l. instr_marks l.instr) ls) h)) (λ i g.
@@ -201,7 +201,7 @@ items_known : (known : List Symbol) (p : ℕ) (bs : List tree_block.Block) → E
 items_known known p [] h = tt
 items_known known p (b ∷ bs) h = joined (ItemKnown known) (block_items p b) (items_from (suc p) bs) (h.0 p) (items_known known (suc p) bs h.1)
 
-module _ (types : Types) (locals : Known) (known : List Symbol) where
+module _ (types : Types) (locals : LocalTable) (known : List Symbol) where
   block_known : (n : ℕ) (b : raw_block.Block) → MarksKnown known (block_marks b) → Gives (block_in types locals n b) (BlockKnown known)
   unfolding block_of
   block_known n b h =
@@ -225,11 +225,11 @@ module _ (types : Types) (locals : Known) (known : List Symbol) where
 abbrev pub FunctionKnown : List Symbol → Function → Type 0
 FunctionKnown known f = All (ItemKnown known) (items f)
 
-abbrev made : raw_head.Head → Bool → Bool → List tree_block.Block → Function
+abbrev made : raw_head.FunctionHeader → Bool → Bool → List tree_block.Block → Function
 made head noinline optnone bs =
     record { symbol = symbol_of head.name; linkage = head.linkage; result = head.result; params = params_from 0 head.params; noinline = noinline; optnone = optnone; blocks = bs }
 
-pub function_known : (types : Types) (known : List Symbol) (head : raw_head.Head) (blocks : List raw_block.Block) (noinline optnone : Bool) → MarksKnown known (all block_marks blocks)
+pub function_known : (types : Types) (known : List Symbol) (head : raw_head.FunctionHeader) (blocks : List raw_block.Block) (noinline optnone : Bool) → MarksKnown known (all block_marks blocks)
     → Gives (function_in types head blocks noinline optnone) (FunctionKnown known)
 unfolding function_in
 function_known types known head blocks noinline optnone h =
@@ -238,7 +238,7 @@ function_known types known head blocks noinline optnone h =
     (λ bs g. gives (FunctionKnown known) (made head noinline optnone bs) (All-from_recursion (ItemKnown known) (items_from 0 bs) (items_known known 0 bs g)))
 
 -- its symbol is that of its name
-pub function_symbol : (types : Types) (head : raw_head.Head) (blocks : List raw_block.Block) (noinline optnone : Bool) → Gives (function_in types head blocks noinline optnone) (λ f. f.symbol ≡ symbol_of head.name)
+pub function_symbol : (types : Types) (head : raw_head.FunctionHeader) (blocks : List raw_block.Block) (noinline optnone : Bool) → Gives (function_in types head blocks noinline optnone) (λ f. f.symbol ≡ symbol_of head.name)
 unfolding function_in
 function_symbol types head blocks noinline optnone =
     bind _ (λ (f : Function). f.symbol ≡ symbol_of head.name) (blocks_of types head.params blocks) (λ bs. Ok (made head noinline optnone bs)) (whatever (blocks_of types head.params blocks))

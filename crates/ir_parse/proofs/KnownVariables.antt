@@ -27,7 +27,7 @@ use Rattle.ir_tree.specs.declared.operand.Symbol.{Symbol}
 use Rattle.ir_names.specs.Bodies.{align_or}
 use Rattle.ir_names.specs.Locals.{none_known}
 use Rattle.ir_names.specs.Marks.{all, head_marks, init_marks, part_marks, typed_marks, uses}
-use Rattle.ir_names.specs.Settled.{◌>>=◌}
+use Rattle.ir_names.specs.Resolving.{◌>>=◌}
 use Rattle.ir_names.specs.Symbols.{symbol_of}
 use Rattle.ir_names.specs.Types.{Types, is_width, expanded}
 use Rattle.ir_names.specs.Variables.{constant_for, head_in, init_if, init_in, literal_or, number_for, part_in, variable_in}
@@ -63,7 +63,7 @@ module _ (known : List Symbol) where
   head_known : (types : Types) (f : Form) (h : raw_head.InitHead) → MarksKnown known (head_marks h) → Gives (head_in types none_known f h) HeadKnown
   head_known types f (rh.Plain operand) w = bind (IsKnown known) HeadKnown _ _ (operand_known types none_known known operand w) (λ o g. gives HeadKnown (th.Plain (constant_for f o)) (for_known f o g))
   head_known types f rh.Zeros w = gives HeadKnown th.Zeros tt
-  head_known types f (rh.Bytes string) w = gives HeadKnown (th.Bytes (content string.kind string.text)) tt
+  head_known types f (rh.Bytes string) w = gives HeadKnown (th.Bytes (content string.form string.text)) tt
   head_known types f (rh.Number t) w = gives HeadKnown (th.Plain (number_for f t)) (number_known f t)
   head_known types f rh.Array w = gives HeadKnown th.Array tt
   head_known types f (rh.Struct packed) w = gives HeadKnown (th.Struct packed) tt

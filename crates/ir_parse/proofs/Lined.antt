@@ -2,7 +2,7 @@
 use Rattle.std.proofs.Common.{◌≡◌, refl, sym, ap, ◌∙◌, ℕ, suc, ◌+◌, List, [], ◌∷◌, ◌++◌, map, length, flat_map, Option, None, Some, Result, Ok, Err, IfOk, arith, length-append}
 use Rattle.std.proofs.lemmas.List.{length-map}
 use Rattle.ir_read.specs.declared.raw.Block as raw_block
-use Rattle.ir_read.specs.declared.raw.Line as raw_line
+use Rattle.ir_read.specs.declared.raw.WrittenLine as raw_line
 use Rattle.ir_tree.specs.declared.block.Block.{Block}
 use Rattle.ir_tree.specs.declared.block.Terminator.{Terminator}
 use Rattle.ir_tree.specs.declared.instr.Line.{Line}
@@ -12,9 +12,9 @@ use Rattle.ir_tree.specs.Items.{phi_item, end_item, lines_from, block_items, ite
 use Rattle.ir_names.specs.declared.fault.Fault.{Fault}
 use Rattle.named_values.specs.Blocks.{phi_before, lines_behind, as_phi, phis_of, rest_of, body_of, block_of, block_in, blocks_in, behind_block, blocks_of, params_from, function_in}
 use Rattle.ir_names.specs.Bodies.{instr_in, lines_in, behind_line, end_in, local_at}
-use Rattle.ir_names.specs.Locals.{Known}
+use Rattle.ir_names.specs.Locals.{LocalTable}
 use Rattle.ir_names.specs.Numbering.{locals_of}
-use Rattle.ir_names.specs.Settled.{◌>>=◌}
+use Rattle.ir_names.specs.Resolving.{◌>>=◌}
 use Rattle.ir_names.specs.Symbols.{symbol_of}
 use Rattle.ir_names.specs.Types.{Types}
 use Rattle.ir_parse.specs.Lines.{block_lines}
@@ -34,7 +34,7 @@ one_more g (Ok x) (Ok ys) n h = ap suc h
 one_more g (Ok x) (Err e) n h = tt
 one_more g (Err e) s n h = tt
 
-lines_many : (types : Types) (locals : Known) (next : ℕ) (written : List raw_line.Line) → IfOk (lines_in types locals next written) (λ ls. length ls ≡ length written)
+lines_many : (types : Types) (locals : LocalTable) (next : ℕ) (written : List raw_line.WrittenLine) → IfOk (lines_in types locals next written) (λ ls. length ls ≡ length written)
 lines_many types locals next [] = refl
 lines_many types locals next (l ∷ written) =
     one_more (λ i. record { local = local_at next l; instr = i }) (instr_in types locals l.instr) (lines_in types locals (behind_line next l) written) (length written) (lines_many types locals (behind_line next l) written)
@@ -45,7 +45,7 @@ ended number n (Ok ls) (Ok e) h = parted ls ∙ h
 ended number n (Ok ls) (Err e) h = tt
 ended number n (Err e) s h = tt
 
-block_many : (types : Types) (locals : Known) (number : ℕ) (b : raw_block.Block) → IfOk (block_in types locals number b) (λ t. length t.phis + length t.lines ≡ length b.lines)
+block_many : (types : Types) (locals : LocalTable) (number : ℕ) (b : raw_block.Block) → IfOk (block_in types locals number b) (λ t. length t.phis + length t.lines ≡ length b.lines)
 unfolding block_of
 block_many types locals number b =
     ended number (length b.lines) (lines_in types locals (number + 1) b.lines) (end_in types locals b.end) (lines_many types locals (number + 1) b.lines)
@@ -66,8 +66,8 @@ block_long k t =
 -- its lines
 written_long : (b : raw_block.Block) → length (block_lines b) ≡ length b.lines + 1
 written_long b =
-    let lines : length (map (λ (l : raw_line.Line). l.line) b.lines) ≡ length b.lines = length-map b.lines (λ (l : raw_line.Line). l.line) in
-    let all : length (block_lines b) ≡ length (map (λ (l : raw_line.Line). l.line) b.lines) + 1 = length-append (map (λ (l : raw_line.Line). l.line) b.lines) (b.end_line ∷ []) in
+    let lines : length (map (λ (l : raw_line.WrittenLine). l.line) b.lines) ≡ length b.lines = length-map b.lines (λ (l : raw_line.WrittenLine). l.line) in
+    let all : length (block_lines b) ≡ length (map (λ (l : raw_line.WrittenLine). l.line) b.lines) + 1 = length-append (map (λ (l : raw_line.WrittenLine). l.line) b.lines) (b.end_line ∷ []) in
     omega (arith, lines, all)
 
 followed : (k : ℕ) (b : raw_block.Block) (bs : List raw_block.Block) (r : Result Block Fault) (s : Result (List Block) Fault) → IfOk r (λ t. length t.phis + length t.lines ≡ length b.lines)
@@ -79,7 +79,7 @@ followed k b bs (Ok t) (Ok ts) one rest =
 followed k b bs (Ok t) (Err e) one rest = tt
 followed k b bs (Err e) s one rest = tt
 
-blocks_many : (types : Types) (locals : Known) (next k : ℕ) (bs : List raw_block.Block) → IfOk (blocks_in types locals next bs) (λ ts. length (flat_map block_lines bs) ≡ length (items_from k ts))
+blocks_many : (types : Types) (locals : LocalTable) (next k : ℕ) (bs : List raw_block.Block) → IfOk (blocks_in types locals next bs) (λ ts. length (flat_map block_lines bs) ≡ length (items_from k ts))
 blocks_many types locals next k [] = refl
 blocks_many types locals next k (b ∷ bs) =
     followed k b bs (block_in types locals next b) (blocks_in types locals (behind_block next b) bs) (block_many types locals next b) (blocks_many types locals (behind_block next b) (suc k) bs)

@@ -6,10 +6,10 @@ use Rattle.ir_bodies.specs.declared.opcodes.Opcode.{Opcode}
 use Rattle.ir_bodies.specs.declared.opcodes.Opcode.TheVariants as opcodes
 use Rattle.ir_bodies.specs.declared.opcodes.Operation.{Operation}
 use Rattle.ir_bodies.specs.declared.opcodes.Operation.TheVariants as operations
-use Rattle.ir_lex.specs.Heads.{number}
+use Rattle.ir_lex.specs.TokenKinds.{number}
 use Rattle.ir_lex.specs.Tok.{Tok}
-use Rattle.ir_lex.specs.declared.head.Head.{Head}
-use Rattle.ir_lex.specs.declared.head.Head.TheVariants as heads
+use Rattle.ir_lex.specs.declared.token_kind.TokenKind.{TokenKind}
+use Rattle.ir_lex.specs.declared.token_kind.TokenKind.TheVariants as kinds
 use Rattle.ir_read.specs.Alphabet.{contains}
 use Rattle.ir_read.specs.Forms.{Form}
 use Rattle.ir_instructions.specs.Addressing.{slots_fit}
@@ -39,19 +39,19 @@ abbrev OpcodeSuits : Opcode → Type 0
 OpcodeSuits (opcodes.Value o) = Suits o
 OpcodeSuits _ = Unit {0}
 
-suits_by : (h : Head) → OpcodeSuits (opcode_by h)
-suits_by heads.Add = λ f e. e
-suits_by heads.Sub = λ f e. e
-suits_by heads.Mul = λ f e. e
-suits_by heads.Shl = λ f e. e
-suits_by heads.Udiv = λ exact. (refl, refl)
-suits_by heads.Sdiv = λ exact. (refl, refl)
-suits_by heads.Lshr = λ exact. (refl, refl)
-suits_by heads.Ashr = λ exact. (refl, refl)
-suits_by heads.Urem = (refl, refl, refl)
-suits_by heads.Srem = (refl, refl, refl)
-suits_by heads.And = (refl, refl, refl)
-suits_by heads.Xor = (refl, refl, refl)
+suits_by : (h : TokenKind) → OpcodeSuits (opcode_by h)
+suits_by kinds.Add = λ f e. e
+suits_by kinds.Sub = λ f e. e
+suits_by kinds.Mul = λ f e. e
+suits_by kinds.Shl = λ f e. e
+suits_by kinds.Udiv = λ exact. (refl, refl)
+suits_by kinds.Sdiv = λ exact. (refl, refl)
+suits_by kinds.Lshr = λ exact. (refl, refl)
+suits_by kinds.Ashr = λ exact. (refl, refl)
+suits_by kinds.Urem = (refl, refl, refl)
+suits_by kinds.Srem = (refl, refl, refl)
+suits_by kinds.And = (refl, refl, refl)
+suits_by kinds.Xor = (refl, refl, refl)
 suits_by h = tt
 
 -- it may stand behind this name, or without one
@@ -63,8 +63,8 @@ fits_none : (o : Opcode) → Fits None o
 fits_none opcodes.Store = refl
 fits_none o = tt
 
-fits_by : (name : Option Tok) (h : Head) → contains GIVING (number h) ≡ true → Fits name (opcode_by h)
-fits_by name heads.Store c = absurd cc
+fits_by : (name : Option Tok) (h : TokenKind) → contains GIVING (number h) ≡ true → Fits name (opcode_by h)
+fits_by name kinds.Store c = absurd cc
 fits_by name h c = tt
 
 -- ---- what follows them
@@ -113,7 +113,7 @@ line_behind_written : (name : Tok) → Means (line_behind slots_fit memory_shape
 unfolding line_behind
 line_behind_written name =
     skip _ (λ _.
-    follow {P = λ o. OpcodeSuits o × Fits (Some name) o} (among_means _ _ _ (λ t s c. (suits_by t.head, fits_by (Some name) t.head c))) (λ o h.
+    follow {P = λ o. OpcodeSuits o × Fits (Some name) o} (among_means _ _ _ (λ t s c. (suits_by t.kind, fits_by (Some name) t.kind c))) (λ o h.
     follow (behind_written (Some name) true o h.0 h.1) (λ i g. nothing (lined_written (Some name) name.line i g))))
 
 named_written : (name : Form Tok Tok) → Means (named_line name slots_fit memory_shape) (λ l. IfSome l LineWritten)
@@ -123,7 +123,7 @@ named_written name = skip _ (λ n. line_behind_written n)
 plain_written : Means (plain_line slots_fit memory_shape) (λ l. IfSome l LineWritten)
 unfolding plain_line
 plain_written =
-    follow {P = λ b. OpcodeSuits b.opcode} (among_means _ _ _ (λ t s c. suits_by t.head)) (λ b h.
+    follow {P = λ b. OpcodeSuits b.opcode} (among_means _ _ _ (λ t s c. suits_by t.kind)) (λ b h.
     follow (behind_written None false b.opcode h (fits_none b.opcode)) (λ i g. nothing (lined_written None b.line i g)))
 
 pub line_written : (name : Form Tok Tok) → Means (line name slots_fit memory_shape) (λ l. IfSome l LineWritten)

@@ -3,7 +3,7 @@ use Rattle.std.proofs.Common.{◌≡◌, ℕ, zero, suc, Bool, true, false, cond
 use Rattle.std.specs.List.{AllByRecursion as Each, fold}
 use Rattle.std.specs.Prelude.{IfSome}
 use Rattle.std.proofs.lemmas.Bool.{and_parts}
-use Rattle.ir_lex.specs.Heads.{number}
+use Rattle.ir_lex.specs.TokenKinds.{number}
 use Rattle.ir_lex.specs.Tok.{Tok}
 use Rattle.ir_read.specs.Alphabet.{contains}
 use Rattle.ir_read.specs.Chained.{Chain}
@@ -75,27 +75,27 @@ valued None a e = absurd cc
 valued (Some b) a e = let same : b ≡ a = cc in ap (λ x. Some x) same
 
 pub among_means : {A : Type 0} (refuse : ℕ → TokenFault) (classes : List ℕ) (value : Tok → A) {P : A → Type 0}
-    → ((t : Tok) → IsSized t → contains classes (number t.head) ≡ true → P (value t)) → Means (form.token (is_among tokens refuse classes value)) P
+    → ((t : Tok) → IsSized t → contains classes (number t.kind) ≡ true → P (value t)) → Means (form.token (is_among tokens refuse classes value)) P
 unfolding is_among
 among_means {A} refuse classes value {P} f =
     token_means (λ t a s h.
-    let yes = accepted (contains classes (number t.head)) (Ok (value t)) (refuse (number t.head)) a h in
+    let yes = accepted (contains classes (number t.kind)) (Ok (value t)) (refuse (number t.kind)) a h in
     let same : value t ≡ a = cc (yes.1) in subst P same (f t s yes.0))
 
 pub exact_means : {A : Type 0} (refuse : ℕ → TokenFault) (classes : List ℕ) (test : Tok → Bool) (value : Tok → A) {P : A → Type 0}
-    → ((t : Tok) → IsSized t → contains classes (number t.head) ≡ true → P (value t)) → Means (form.token (is_exact tokens refuse classes test value)) P
+    → ((t : Tok) → IsSized t → contains classes (number t.kind) ≡ true → P (value t)) → Means (form.token (is_exact tokens refuse classes test value)) P
 unfolding is_exact
 exact_means {A} refuse classes test value {P} f =
     token_means (λ t a s h.
-    let yes = accepted (contains classes (number t.head) && test t) (Ok (value t)) (refuse (number t.head)) a h in
-    let same : value t ≡ a = cc (yes.1) in subst P same (f t s (and_parts (contains classes (number t.head)) (test t) yes.0).0))
+    let yes = accepted (contains classes (number t.kind) && test t) (Ok (value t)) (refuse (number t.kind)) a h in
+    let same : value t ≡ a = cc (yes.1) in subst P same (f t s (and_parts (contains classes (number t.kind)) (test t) yes.0).0))
 
 pub valued_means : {A : Type 0} (refuse : ℕ → TokenFault) (classes : List ℕ) {value : Tok → Option A} {P : A → Type 0}
     → ((t : Tok) (a : A) → IsSized t → value t ≡ Some a → P a) → Means (form.token (is_valued tokens refuse classes value)) P
 unfolding is_valued
 valued_means {A} refuse classes {value} {P} f =
     token_means (λ t a s h.
-    let yes = accepted (contains classes (number t.head)) (in_range (value t)) (refuse (number t.head)) a h in f t a s (valued (value t) a yes.1))
+    let yes = accepted (contains classes (number t.kind)) (in_range (value t)) (refuse (number t.kind)) a h in f t a s (valued (value t) a yes.1))
 
 -- ---- lists
 

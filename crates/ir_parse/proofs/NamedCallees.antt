@@ -3,11 +3,11 @@ use Rattle.std.proofs.Common.{◌≡◌, ℕ, ◌-◌, ◌<◌, suc, nat_eq, Boo
 use Rattle.std.proofs.lemmas.List.{append-nil, length-append}
 use Rattle.std.specs.List.{fold}
 use Rattle.std.specs.Prelude.{codes}
-use Rattle.ir_lex.specs.Heads.{number}
+use Rattle.ir_lex.specs.TokenKinds.{number}
 use Rattle.ir_lex.specs.Tok.{Tok}
-use Rattle.ir_lex.specs.declared.head.Head.TheVariants as heads
-use Rattle.ir_lex.specs.declared.token.Kind.TheVariants as kinds
-use Rattle.ir_lex.specs.declared.head.Head.{Head}
+use Rattle.ir_lex.specs.declared.token_kind.TokenKind.TheVariants as kinds
+use Rattle.ir_lex.specs.declared.token.TokenForm.TheVariants as forms
+use Rattle.ir_lex.specs.declared.token_kind.TokenKind.{TokenKind}
 use Rattle.ir_tree.specs.declared.operand.Reg.TheVariants.{Ptr}
 use Rattle.ir_read.proofs.Composed.{limit_up, with_wide, wrong, wrong_is}
 use Rattle.ir_read.proofs.Rules as rules
@@ -36,7 +36,7 @@ use Rattle.ir_read.specs.declared.places.Before.TheVariants as befores
 use Rattle.ir_read.specs.declared.places.Before.{Before}
 use Rattle.ir_read.specs.declared.places.Position.{Position}
 use Rattle.ir_read.specs.declared.raw.Item.{Item}
-use Rattle.ir_read.specs.declared.raw.Line.{Line}
+use Rattle.ir_read.specs.declared.raw.WrittenLine.{WrittenLine}
 use Rattle.ir_read.specs.declared.raw.Operand.{Operand}
 use Rattle.ir_heads.proofs.AttributeRules.{definition_attributes_rule}
 use Rattle.ir_heads.proofs.FunctionHeadRules.{head_rule}
@@ -72,11 +72,11 @@ fine u = Ok u
 same : (n m : ℕ) → nat_eq n m ≡ true → n ≡ m
 same n m h = grind arith
 
-is_marker : (t : Tok) → among tokens MARKER t ≡ true → number t.head ≡ number heads.LifetimeMarker
-is_marker t e = by_test (nat_eq (number t.head) (number heads.LifetimeMarker)) refl e
+is_marker : (t : Tok) → among tokens MARKER t ≡ true → number t.kind ≡ number kinds.LifetimeMarker
+is_marker t e = by_test (nat_eq (number t.kind) (number kinds.LifetimeMarker)) refl e
   where
-    by_test : (b : Bool) → nat_eq (number t.head) (number heads.LifetimeMarker) ≡ b → b || false ≡ true → number t.head ≡ number heads.LifetimeMarker
-    by_test true p e = same (number t.head) (number heads.LifetimeMarker) p
+    by_test : (b : Bool) → nat_eq (number t.kind) (number kinds.LifetimeMarker) ≡ b → b || false ≡ true → number t.kind ≡ number kinds.LifetimeMarker
+    by_test true p e = same (number t.kind) (number kinds.LifetimeMarker) p
     by_test false p e = absurd cc
 
 marker_opens : Opening MARKER []
@@ -89,19 +89,19 @@ unfolding conventions conventions_at
 conventions_reading = reading (rules.seq tokens (rules.any_number tokens CONVENTIONS convention_rule refl refl) (λ _. rules.nothing tokens tt) refl)
 
 written_type_rule : Rule tokens written_type written_type written_type_at REG [] false
-written_type_rule = rules.among_rule tokens type_refusal type_not_number type_not_limit REG itself (word heads.MemoryInteger (codes "i32")) refl int_32_real
+written_type_rule = rules.among_rule tokens type_refusal type_not_number type_not_limit REG itself (word kinds.MemoryInteger (codes "i32")) refl int_32_real
 
 some_types_rule : Rule tokens some_types some_types some_types_at REG COMMA false
 unfolding some_types some_types_at types_behind_at
 some_types_rule = rules.seq tokens written_type_rule (λ first. rules.seq tokens (rules.any_number tokens COMMA further_type_rule refl refl) (λ _. rules.nothing tokens _) refl) refl
 
-end_of_none_rule : Rule tokens end_of_none end_of_none end_of_none_at (number heads.CloseParen ∷ []) [] false
+end_of_none_rule : Rule tokens end_of_none end_of_none end_of_none_at (number kinds.CloseParen ∷ []) [] false
 unfolding is_class
-end_of_none_rule = rules.class_rule tokens type_refusal type_not_number type_not_limit (number heads.CloseParen) (mark heads.CloseParen (codes ")")) refl close_paren_real
+end_of_none_rule = rules.class_rule tokens type_refusal type_not_number type_not_limit (number kinds.CloseParen) (mark kinds.CloseParen (codes ")")) refl close_paren_real
 
-listed_types_rule : Rule tokens listed_types listed_types listed_types_at (number heads.CloseParen ∷ REG) [] false
+listed_types_rule : Rule tokens listed_types listed_types listed_types_at (number kinds.CloseParen ∷ REG) [] false
 unfolding listed_types listed_types_at
-listed_types_rule = rules.broader tokens (number heads.CloseParen ∷ REG) [] (rules.alt tokens REG (rules.seq tokens some_types_rule (λ _. rules.seq tokens close_paren_rule (λ _. rules.nothing tokens _) refl) refl) (rules.seq tokens end_of_none_rule (λ _. rules.nothing tokens _) refl) refl refl) refl refl
+listed_types_rule = rules.broader tokens (number kinds.CloseParen ∷ REG) [] (rules.alt tokens REG (rules.seq tokens some_types_rule (λ _. rules.seq tokens close_paren_rule (λ _. rules.nothing tokens _) refl) refl) (rules.seq tokens end_of_none_rule (λ _. rules.nothing tokens _) refl) refl refl) refl refl
 
 types_rule : Rule tokens types types types_at PAREN [] false
 unfolding types types_at
@@ -124,22 +124,22 @@ unfolding unmarked_value_at
 callee_leads = first_leads (pick (among tokens ADDRESS) address_at unmarked_at) _ [] (leads_other ADDRESS MARKER refl address_at unmarked_at [] marker_opens (record { ends = λ t rest m. inl (marker_refused t rest m) }))
 
 -- a token that gives no result is `void`
-void_result : (ts : List Tok) → the heads.Void ts tt → result ts None
+void_result : (ts : List Tok) → the kinds.Void ts tt → result ts None
 unfolding is_class is_among
 void_result [] s = absurd s
-void_result (t ∷ []) s = by_test (nat_eq (number t.head) (number heads.Void)) refl s
+void_result (t ∷ []) s = by_test (nat_eq (number t.kind) (number kinds.Void)) refl s
   where
-    by_test : (b : Bool) → nat_eq (number t.head) (number heads.Void) ≡ b → cond b (Ok tt) (Err (refusal (number t.head))) ≡ fine tt → is_among tokens type_refusal RESULT result_of t ≡ Ok None
-    by_test true e s = ap (λ (b : Bool). cond b (Ok (result_of t)) (Err (type_refusal (number t.head)))) (ap (contains RESULT) (same (number t.head) (number heads.Void) e)) ∙ ap (λ (b : Bool). Ok (cond b None (Some (reg_of t)))) e
+    by_test : (b : Bool) → nat_eq (number t.kind) (number kinds.Void) ≡ b → cond b (Ok tt) (Err (refusal (number t.kind))) ≡ fine tt → is_among tokens type_refusal RESULT result_of t ≡ Ok None
+    by_test true e s = ap (λ (b : Bool). cond b (Ok (result_of t)) (Err (type_refusal (number t.kind)))) (ap (contains RESULT) (same (number t.kind) (number kinds.Void) e)) ∙ ap (λ (b : Bool). Ok (cond b None (Some (reg_of t)))) e
     by_test false e s = absurd cc
 void_result (t ∷ u ∷ ts) s = absurd s
 
-void_opens : (one two : List Tok) → the heads.Void one tt → Opening (number heads.Void ∷ []) (one ++ two)
+void_opens : (one two : List Tok) → the kinds.Void one tt → Opening (number kinds.Void ∷ []) (one ++ two)
 unfolding is_class
 void_opens [] two s = absurd s
-void_opens (t ∷ []) two s = λ _ _ _. by_test (nat_eq (number t.head) (number heads.Void)) s
+void_opens (t ∷ []) two s = λ _ _ _. by_test (nat_eq (number t.kind) (number kinds.Void)) s
   where
-    by_test : (b : Bool) → cond b (fine tt) (Err (refusal (number t.head))) ≡ fine tt → b || false ≡ true
+    by_test : (b : Bool) → cond b (fine tt) (Err (refusal (number t.kind))) ≡ fine tt → b || false ≡ true
     by_test true s = refl
     by_test false s = absurd cc
 void_opens (t ∷ u ∷ one) two s = absurd s
@@ -152,55 +152,55 @@ calling_leads front (one, two, _, e, s, (one', two', _, e', s', (one'', two'', w
     let to_types = subst (Leads (maybe_types_at >>= λ ws. callee_at true None >>= λ f. calling_with_at None ws f)) types_too to_callee in
     let to_result = leads_after _ (reading result_rule) one' two' None (void_result one' s') to_types in
     let result_too : Leads (result_at >>= λ r. maybe_types_at >>= λ ws. callee_at true r >>= λ f. calling_with_at r ws f) two = subst (Leads (result_at >>= λ r. maybe_types_at >>= λ ws. callee_at true r >>= λ f. calling_with_at r ws f)) (sym e') to_result in
-    subst (Leads (conventions_at >>= λ _. result_at >>= λ r. maybe_types_at >>= λ ws. callee_at true r >>= λ f. calling_with_at r ws f)) (sym e) (leads_behind _ conventions_reading one two tt s result_too (number heads.Void ∷ []) refl (subst (Opening (number heads.Void ∷ [])) (sym e') (void_opens one' two' s')))
+    subst (Leads (conventions_at >>= λ _. result_at >>= λ r. maybe_types_at >>= λ ws. callee_at true r >>= λ f. calling_with_at r ws f)) (sym e) (leads_behind _ conventions_reading one two tt s result_too (number kinds.Void ∷ []) refl (subst (Opening (number kinds.Void ∷ [])) (sym e') (void_opens one' two' s')))
 
-tail_calling_leads : (front : List Tok) → form.◌>>=◌ (the heads.Call) (λ _. before_callee) front tt → Leads (tail_calling_at true) front
+tail_calling_leads : (front : List Tok) → form.◌>>=◌ (the kinds.Call) (λ _. before_callee) front tt → Leads (tail_calling_at true) front
 unfolding form.◌>>=◌ tail_calling_at
 tail_calling_leads front (one, two, _, e, s, v) = subst (Leads (tail_calling_at true)) (sym e) (leads_after _ (reading call_word_rule) one two tt s (calling_leads two v))
 
 -- ---- lines
 
-good_is : (h : Head) (wanted : Head) → contains GIVING (number wanted) ≡ true → nat_eq (number h) (number wanted) ≡ true → contains GIVING (number h) ≡ true
+good_is : (h : TokenKind) (wanted : TokenKind) → contains GIVING (number wanted) ≡ true → nat_eq (number h) (number wanted) ≡ true → contains GIVING (number h) ≡ true
 good_is h wanted g e = ap (contains GIVING) (same (number h) (number wanted) e) ∙ g
 
-tail_opcode : (h : Head) → nat_eq (number h) (number heads.TailMark) ≡ true → opcode_by h ≡ opcodes.Tail
-tail_opcode heads.TailMark e = refl
+tail_opcode : (h : TokenKind) → nat_eq (number h) (number kinds.TailMark) ≡ true → opcode_by h ≡ opcodes.Tail
+tail_opcode kinds.TailMark e = refl
 tail_opcode h e = absurd cc
 
-call_opcode : (h : Head) → nat_eq (number h) (number heads.Call) ≡ true → opcode_by h ≡ opcodes.Call
-call_opcode heads.Call e = refl
+call_opcode : (h : TokenKind) → nat_eq (number h) (number kinds.Call) ≡ true → opcode_by h ≡ opcodes.Call
+call_opcode kinds.Call e = refl
 call_opcode h e = absurd cc
 
 abbrev given : Opcode → Result Opcode TokenFault
 given o = Ok o
 
 -- a first word of this class is read as this instruction
-opcode_read : (wanted : Head) (o : Opcode) → contains GIVING (number wanted) ≡ true → ((h : Head) → nat_eq (number h) (number wanted) ≡ true → opcode_by h ≡ o) → (ts : List Tok) → the wanted ts tt → one_of GIVING opcode_of ts o
+opcode_read : (wanted : TokenKind) (o : Opcode) → contains GIVING (number wanted) ≡ true → ((h : TokenKind) → nat_eq (number h) (number wanted) ≡ true → opcode_by h ≡ o) → (ts : List Tok) → the wanted ts tt → one_of GIVING opcode_of ts o
 unfolding is_class is_among
 opcode_read wanted o g means [] s = absurd s
-opcode_read wanted o g means (t ∷ []) s = by_test (nat_eq (number t.head) (number wanted)) refl s
+opcode_read wanted o g means (t ∷ []) s = by_test (nat_eq (number t.kind) (number wanted)) refl s
   where
-    by_test : (b : Bool) → nat_eq (number t.head) (number wanted) ≡ b → cond b (fine tt) (Err (refusal (number t.head))) ≡ fine tt → cond (among tokens GIVING t) (given (opcode_of t)) (Err (refusal (number t.head))) ≡ given o
-    by_test true e s = ap (λ (b : Bool). cond b (given (opcode_of t)) (Err (refusal (number t.head)))) (good_is t.head wanted g e) ∙ ap given (means t.head e)
+    by_test : (b : Bool) → nat_eq (number t.kind) (number wanted) ≡ b → cond b (fine tt) (Err (refusal (number t.kind))) ≡ fine tt → cond (among tokens GIVING t) (given (opcode_of t)) (Err (refusal (number t.kind))) ≡ given o
+    by_test true e s = ap (λ (b : Bool). cond b (given (opcode_of t)) (Err (refusal (number t.kind)))) (good_is t.kind wanted g e) ∙ ap given (means t.kind e)
     by_test false e s = absurd cc
 opcode_read wanted o g means (t ∷ u ∷ ts) s = absurd s
 
-abbrev behind_name : Tok → Reader Tok (Option Line)
+abbrev behind_name : Tok → Reader Tok (Option WrittenLine)
 behind_name name = one_of_at GIVING opcode_of >>= λ o. behind_at true o >>= λ i. done (lined (Some name) name.line i)
 
 opcodes_reading : Reading (one_of GIVING opcode_of) (one_of_at GIVING opcode_of) GIVING [] false
-opcodes_reading = reading (one_rule GIVING opcode_of (word heads.Add (codes "add")) refl add_real)
+opcodes_reading = reading (one_rule GIVING opcode_of (word kinds.Add (codes "add")) refl add_real)
 
-instruction_leads : (name : Tok) (front : List Tok) → form.◌>>=◌ (form.optional (the heads.TailMark)) (λ _. form.◌>>=◌ (the heads.Call) (λ _. before_callee)) front tt → Leads (behind_name name) front
+instruction_leads : (name : Tok) (front : List Tok) → form.◌>>=◌ (form.optional (the kinds.TailMark)) (λ _. form.◌>>=◌ (the kinds.Call) (λ _. before_callee)) front tt → Leads (behind_name name) front
 unfolding form.◌>>=◌ form.either
 instruction_leads name front (one, two, _, e, inl (p, q, _, e', s, n), v) =
     let only : one ≡ p = e' ∙ ap (λ (ts : List Tok). p ++ ts) n.0 ∙ append-nil p in
     subst (Leads (behind_name name)) (sym (e ∙ ap (λ (ts : List Tok). ts ++ two) only))
-    (leads_after (λ o. behind_at true o >>= λ i. done (lined (Some name) name.line i)) opcodes_reading p two opcodes.Tail (opcode_read heads.TailMark opcodes.Tail refl tail_opcode p s) (first_leads (tail_calling_at true) (λ i. done (lined (Some name) name.line i)) two (tail_calling_leads two v)))
+    (leads_after (λ o. behind_at true o >>= λ i. done (lined (Some name) name.line i)) opcodes_reading p two opcodes.Tail (opcode_read kinds.TailMark opcodes.Tail refl tail_opcode p s) (first_leads (tail_calling_at true) (λ i. done (lined (Some name) name.line i)) two (tail_calling_leads two v)))
 instruction_leads name front (one, two, _, e, inr n, (p, q, _, e', s, v)) =
     let only : front ≡ p ++ q = e ∙ ap (λ (ts : List Tok). ts ++ two) n.0 ∙ e' in
     subst (Leads (behind_name name)) (sym only)
-    (leads_after (λ o. behind_at true o >>= λ i. done (lined (Some name) name.line i)) opcodes_reading p q opcodes.Call (opcode_read heads.Call opcodes.Call refl call_opcode p s) (first_leads (calling_at true) (λ i. done (lined (Some name) name.line i)) q (calling_leads q v)))
+    (leads_after (λ o. behind_at true o >>= λ i. done (lined (Some name) name.line i)) opcodes_reading p q opcodes.Call (opcode_read kinds.Call opcodes.Call refl call_opcode p s) (first_leads (calling_at true) (λ i. done (lined (Some name) name.line i)) q (calling_leads q v)))
 
 local_reading : Reading any_local local_at LOCAL [] false
 local_reading = record { broad = rules.any_broad tokens refusal LOCAL named itself same_name refl }
@@ -258,17 +258,17 @@ block_opens front (one, two, _, e, inr n, v) = subst (λ (ts : List Tok). Openin
 
 -- whole blocks before it are read
 abbrev zero_label : Tok
-zero_label = sample kinds.Label heads.Label (codes "0:")
+zero_label = sample forms.Label kinds.Label (codes "0:")
 
 zero_named : named zero_label ≡ Some zero_label
 unfolding named
 zero_named = refl
 
-is_label : (t : Tok) → among tokens LABEL t ≡ true → number t.head ≡ number heads.Label
-is_label t e = by_test (nat_eq (number t.head) (number heads.Label)) refl e
+is_label : (t : Tok) → among tokens LABEL t ≡ true → number t.kind ≡ number kinds.Label
+is_label t e = by_test (nat_eq (number t.kind) (number kinds.Label)) refl e
   where
-    by_test : (b : Bool) → nat_eq (number t.head) (number heads.Label) ≡ b → b || false ≡ true → number t.head ≡ number heads.Label
-    by_test true p e = same (number t.head) (number heads.Label) p
+    by_test : (b : Bool) → nat_eq (number t.kind) (number kinds.Label) ≡ b → b || false ≡ true → number t.kind ≡ number kinds.Label
+    by_test true p e = same (number t.kind) (number kinds.Label) p
     by_test false p e = absurd cc
 
 label_rule : Rule tokens label any_label label_at LABEL [] false
@@ -301,8 +301,8 @@ definition_leads : (room : ℕ) (front : List Tok) → in_definition front tt �
 unfolding in_definition form.◌>>=◌ definition_at
 definition_leads room front (one, two, _, e, s, (one', two', h, e', s', (one'', two'', k, e'', s'', (p, q, _, e''', r, v)))) =
     let braced : Leads (defined_at (with_kept h k)) two'' = subst (Leads (defined_at (with_kept h k))) (sym e''') (leads_after _ (reading open_brace_rule) p q tt r (first_leads (blocks_at FURTHER_BLOCKS INSTRUCTIONS) _ q (blocks_leads FURTHER_BLOCKS INSTRUCTIONS q v))) in
-    let opens : Opening (number heads.OpenBrace ∷ []) two'' = subst (Opening (number heads.OpenBrace ∷ [])) (sym e''') (opening_first (reading open_brace_rule) p q tt r) in
-    let attributed : Leads (definition_attributes_at >>= λ k. defined_at (with_kept h k)) two' = subst (Leads (definition_attributes_at >>= λ k. defined_at (with_kept h k))) (sym e'') (leads_behind (λ k. defined_at (with_kept h k)) (reading definition_attributes_rule) one'' two'' k s'' braced (number heads.OpenBrace ∷ []) refl opens) in
+    let opens : Opening (number kinds.OpenBrace ∷ []) two'' = subst (Opening (number kinds.OpenBrace ∷ [])) (sym e''') (opening_first (reading open_brace_rule) p q tt r) in
+    let attributed : Leads (definition_attributes_at >>= λ k. defined_at (with_kept h k)) two' = subst (Leads (definition_attributes_at >>= λ k. defined_at (with_kept h k))) (sym e'') (leads_behind (λ k. defined_at (with_kept h k)) (reading definition_attributes_rule) one'' two'' k s'' braced (number kinds.OpenBrace ∷ []) refl opens) in
     let headed : Leads (head_at roles.Definition room >>= λ h. definition_attributes_at >>= λ k. defined_at (with_kept h k)) two = subst (Leads (head_at roles.Definition room >>= λ h. definition_attributes_at >>= λ k. defined_at (with_kept h k))) (sym e') (leads_after (λ h. definition_attributes_at >>= λ k. defined_at (with_kept h k)) (reading (head_rule roles.Definition room)) one' two' h s' attributed) in
     subst (Leads (definition_at room)) (sym e) (leads_after (λ _. head_at roles.Definition room >>= λ h. definition_attributes_at >>= λ k. defined_at (with_kept h k)) (reading define_word_rule) one two tt s headed)
 

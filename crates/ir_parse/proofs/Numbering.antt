@@ -4,7 +4,7 @@ use Rattle.std.specs.Prelude.{flat_map}
 use Rattle.std.proofs.lemmas.List.{append-nil, map-append}
 use Rattle.ir_lex.specs.Tok.{Tok}
 use Rattle.ir_read.specs.declared.raw.Block as raw_block
-use Rattle.ir_read.specs.declared.raw.Line as raw_line
+use Rattle.ir_read.specs.declared.raw.WrittenLine as raw_line
 use Rattle.ir_read.specs.declared.raw.Param as raw_param
 use Rattle.ir_tree.specs.Flow.{definitions, results}
 use Rattle.ir_tree.specs.declared.block.Block as tree_block
@@ -16,9 +16,9 @@ use Rattle.ir_names.specs.declared.locals.Sort.TheVariants.{Value, Block}
 use Rattle.named_values.specs.Blocks.{phi_of, phis_of, rest_of, phi_before, lines_behind, body_of, body_in, block_of, block_in, blocks_in, behind_block, params_from}
 use Rattle.ir_names.specs.Bodies.{instr_in, lines_in, end_in, local_at, behind_line, behind_lines}
 use Rattle.ir_names.specs.Keys.{Key, key_of, written}
-use Rattle.ir_names.specs.Locals.{Known, none_known, is_below, stands, twice, with_key, with_name}
+use Rattle.ir_names.specs.Locals.{LocalTable, none_known, is_below, stands, twice, with_key, with_name}
 use Rattle.ir_names.specs.Numbering.{is_defined, with_params, with_line, with_lines, with_block, with_blocks, locals_of}
-use Rattle.ir_names.specs.Settled.{◌>>=◌}
+use Rattle.ir_names.specs.Resolving.{◌>>=◌}
 use Rattle.ir_names.specs.Types.{Types}
 use Rattle.ir_parse.proofs.Gives.{Gives, gives, fails, bind}
 use Rattle.ir_parse.proofs.Positions.{positions, positions_both}
@@ -33,7 +33,7 @@ abbrev pub line_sorts : Bool → List Sort
 line_sorts true = Value ∷ []
 line_sorts false = []
 
-abbrev pub lines_sorts : List raw_line.Line → List Sort
+abbrev pub lines_sorts : List raw_line.WrittenLine → List Sort
 lines_sorts [] = []
 lines_sorts (l ∷ ls) = line_sorts (is_defined l) ++ lines_sorts ls
 
@@ -46,16 +46,16 @@ text_sorts params blocks = params_sorts params ++ blocks_sorts blocks
 
 -- ---- the definitions that are known have these sorts
 
-abbrev pub sorts_of : Known → List Sort
+abbrev pub sorts_of : LocalTable → List Sort
 sorts_of known = map (λ d. d.1) known.definitions
 
-abbrev Adds : Known → List Sort → Known → Type 0
+abbrev Adds : LocalTable → List Sort → LocalTable → Type 0
 Adds known more k = sorts_of k ≡ sorts_of known ++ more
 
-one_key : (known : Known) (key : Key) (sort : Sort) → Adds known (sort ∷ []) (with_key known key sort)
+one_key : (known : LocalTable) (key : Key) (sort : Sort) → Adds known (sort ∷ []) (with_key known key sort)
 one_key known key sort = map-append (λ d. d.1) known.definitions ((key, sort) ∷ [])
 
-one_name : (known : Known) (name : Option Tok) (sort : Sort) → Gives (with_name known name sort) (Adds known (sort ∷ []))
+one_name : (known : LocalTable) (name : Option Tok) (sort : Sort) → Gives (with_name known name sort) (Adds known (sort ∷ []))
 one_name known None sort = gives (Adds known (sort ∷ [])) (with_key known (written known.counter) sort) (one_key known (written known.counter) sort)
 one_name known (Some name) sort = by (is_below known.counter (key_of name) || stands known.definitions (key_of name))
   where
@@ -64,44 +64,44 @@ one_name known (Some name) sort = by (is_below known.counter (key_of name) || st
     by false = gives (Adds known (sort ∷ [])) (with_key known (key_of name) sort) (one_key known (key_of name) sort)
 
 -- what is added behind what was added
-further : (known k l : Known) (a b : List Sort) → Adds known a k → Adds k b l → Adds known (a ++ b) l
+further : (known k l : LocalTable) (a b : List Sort) → Adds known a k → Adds k b l → Adds known (a ++ b) l
 further known k l a b e g = g ∙ ap (λ (ss : List Sort). ss ++ b) e ∙ append_assoc (sorts_of known) a b
 
-nothing : (known : Known) → Adds known [] known
+nothing : (known : LocalTable) → Adds known [] known
 nothing known = sym (append-nil (sorts_of known))
 
-all_params : (known : Known) (ps : List raw_param.Param) → Gives (with_params known ps) (Adds known (params_sorts ps))
+all_params : (known : LocalTable) (ps : List raw_param.Param) → Gives (with_params known ps) (Adds known (params_sorts ps))
 all_params known [] = gives (Adds known []) known (nothing known)
 all_params known (p ∷ ps) =
     bind (Adds known (Value ∷ [])) (Adds known (params_sorts (p ∷ ps))) (with_name known p.name Value) (λ k. with_params k ps) (one_name known p.name Value) (λ k e.
     record { given = λ l is. further known k l (Value ∷ []) (params_sorts ps) e ((all_params k ps).given l is) })
 
-one_line : (known : Known) (l : raw_line.Line) → Gives (with_line known l) (Adds known (line_sorts (is_defined l)))
+one_line : (known : LocalTable) (l : raw_line.WrittenLine) → Gives (with_line known l) (Adds known (line_sorts (is_defined l)))
 one_line known l = by (is_defined l)
   where
     by : (b : Bool) → Gives (if b then with_name known l.name Value else Ok known) (Adds known (line_sorts b))
     by true = one_name known l.name Value
     by false = gives (Adds known []) known (nothing known)
 
-all_lines : (known : Known) (ls : List raw_line.Line) → Gives (with_lines known ls) (Adds known (lines_sorts ls))
+all_lines : (known : LocalTable) (ls : List raw_line.WrittenLine) → Gives (with_lines known ls) (Adds known (lines_sorts ls))
 all_lines known [] = gives (Adds known []) known (nothing known)
 all_lines known (l ∷ ls) =
     bind (Adds known (line_sorts (is_defined l))) (Adds known (lines_sorts (l ∷ ls))) (with_line known l) (λ k. with_lines k ls) (one_line known l) (λ k e.
     record { given = λ m is. further known k m (line_sorts (is_defined l)) (lines_sorts ls) e ((all_lines k ls).given m is) })
 
-one_block : (known : Known) (b : raw_block.Block) → Gives (with_block known b) (Adds known (Block ∷ lines_sorts b.lines))
+one_block : (known : LocalTable) (b : raw_block.Block) → Gives (with_block known b) (Adds known (Block ∷ lines_sorts b.lines))
 unfolding with_block
 one_block known b =
     bind (Adds known (Block ∷ [])) (Adds known (Block ∷ lines_sorts b.lines)) (with_name known b.label Block) (λ k. with_lines k b.lines) (one_name known b.label Block) (λ k e.
     record { given = λ m is. further known k m (Block ∷ []) (lines_sorts b.lines) e ((all_lines k b.lines).given m is) })
 
-all_blocks : (known : Known) (bs : List raw_block.Block) → Gives (with_blocks known bs) (Adds known (blocks_sorts bs))
+all_blocks : (known : LocalTable) (bs : List raw_block.Block) → Gives (with_blocks known bs) (Adds known (blocks_sorts bs))
 all_blocks known [] = gives (Adds known []) known (nothing known)
 all_blocks known (b ∷ bs) =
     bind (Adds known (Block ∷ lines_sorts b.lines)) (Adds known (blocks_sorts (b ∷ bs))) (with_block known b) (λ k. with_blocks k bs) (one_block known b) (λ k e.
     record { given = λ m is. further known k m (Block ∷ lines_sorts b.lines) (blocks_sorts bs) e ((all_blocks k bs).given m is) })
 
-abbrev pub HasSorts : List Sort → Known → Type 0
+abbrev pub HasSorts : List Sort → LocalTable → Type 0
 HasSorts ss known = sorts_of known ≡ ss
 
 pub known_sorts : (params : List raw_param.Param) (blocks : List raw_block.Block) → Gives (locals_of params blocks) (HasSorts (text_sorts params blocks))
@@ -124,7 +124,7 @@ pub no_blocks_of_params : (n : ℕ) (ps : List raw_param.Param) → positions Bl
 no_blocks_of_params n [] = refl
 no_blocks_of_params n (p ∷ ps) = no_blocks_of_params (n + 1) ps
 
-no_blocks_of_lines : (n : ℕ) (ls : List raw_line.Line) → positions Block n (lines_sorts ls) ≡ []
+no_blocks_of_lines : (n : ℕ) (ls : List raw_line.WrittenLine) → positions Block n (lines_sorts ls) ≡ []
 no_blocks_of_lines n [] = refl
 no_blocks_of_lines n (l ∷ ls) = by (is_defined l) (no_blocks_of_lines (n + 1) ls) (no_blocks_of_lines n ls)
   where
@@ -132,7 +132,7 @@ no_blocks_of_lines n (l ∷ ls) = by (is_defined l) (no_blocks_of_lines (n + 1) 
     by true behind here = behind
     by false behind here = here
 
-behind : (n : ℕ) (ls : List raw_line.Line) → behind_lines n ls ≡ n + length (lines_sorts ls)
+behind : (n : ℕ) (ls : List raw_line.WrittenLine) → behind_lines n ls ≡ n + length (lines_sorts ls)
 behind n [] = omega arith
 behind n (l ∷ ls) = by (is_defined l) (behind (n + 1) ls) (behind n ls)
   where
@@ -141,10 +141,10 @@ behind n (l ∷ ls) = by (is_defined l) (behind (n + 1) ls) (behind n ls)
     by true next here = omega (arith, next)
     by false next here = here
 
-abbrev Takes : ℕ → List raw_line.Line → List Line → Type 0
+abbrev Takes : ℕ → List raw_line.WrittenLine → List Line → Type 0
 Takes n ls out = results out ≡ positions Value n (lines_sorts ls)
 
-lines_placed : (types : Types) (known : Known) (n : ℕ) (ls : List raw_line.Line) → Gives (lines_in types known n ls) (Takes n ls)
+lines_placed : (types : Types) (known : LocalTable) (n : ℕ) (ls : List raw_line.WrittenLine) → Gives (lines_in types known n ls) (Takes n ls)
 lines_placed types known n [] = gives (Takes n []) [] refl
 lines_placed types known n (l ∷ ls) =
     bind (λ i. Unit {0}) (Takes n (l ∷ ls)) (instr_in types known l.instr) (λ i. lines_in types known (behind_line n l) ls >>= λ more. Ok (record { local = local_at n l; instr = i } ∷ more)) (record { given = λ i is. tt }) (λ i _.
@@ -169,7 +169,7 @@ in_body (l ∷ ls) = by l.local l.instr (in_body ls)
 abbrev Opens : ℕ → raw_block.Block → tree_block.Block → Type 0
 Opens n b t = (t.number ≡ n) × (definitions t ≡ positions Value (n + 1) (lines_sorts b.lines))
 
-block_placed : (types : Types) (known : Known) (n : ℕ) (b : raw_block.Block) → Gives (block_in types known n b) (Opens n b)
+block_placed : (types : Types) (known : LocalTable) (n : ℕ) (b : raw_block.Block) → Gives (block_in types known n b) (Opens n b)
 unfolding block_of
 block_placed types known n b =
     bind (λ body. map (λ p. p.local) body.phis ++ results body.lines ≡ positions Value (n + 1) (lines_sorts b.lines)) (Opens n b)
@@ -203,7 +203,7 @@ one_more n b bs t ts one more = record { values = values; numbers = numbers }
     numbers : t.number ∷ map (λ b. b.number) ts ≡ n ∷ positions Block (n + 1) (lines_sorts b.lines ++ blocks_sorts bs)
     numbers = ap (λ (m : ℕ). m ∷ map (λ b. b.number) ts) one.0 ∙ ap (λ (ns : List ℕ). n ∷ ns) (more.numbers ∙ sym later)
 
-pub blocks_placed : (types : Types) (known : Known) (n : ℕ) (bs : List raw_block.Block) → Gives (blocks_in types known n bs) (ArePlaced n bs)
+pub blocks_placed : (types : Types) (known : LocalTable) (n : ℕ) (bs : List raw_block.Block) → Gives (blocks_in types known n bs) (ArePlaced n bs)
 blocks_placed types known n [] = gives (ArePlaced n []) [] (record { values = refl; numbers = refl })
 blocks_placed types known n (b ∷ bs) =
     bind (Opens n b) (ArePlaced n (b ∷ bs)) (block_in types known n b) (λ t. blocks_in types known (behind_block n b) bs >>= λ ts. Ok (t ∷ ts)) (block_placed types known n b) (λ t one.

@@ -1,10 +1,10 @@
 -- Types, operands and arguments that the grammar spells.
 use Rattle.std.proofs.Common.{◌≡◌, ℕ, max, min, nat_eq, ◌||◌, Bool, true, false, ◌⊎◌, inl, inr, drop, Option, Some, None, option_map, refl, subst, arith, if◌then◌else◌}
 use Rattle.std.proofs.lemmas.Bool.{eqb-true, or_cases}
-use Rattle.ir_lex.specs.Heads.{number, width_of}
+use Rattle.ir_lex.specs.TokenKinds.{number, width_of}
 use Rattle.ir_lex.specs.Tok.{Tok}
-use Rattle.ir_lex.specs.declared.head.Head.{Head}
-use Rattle.ir_lex.specs.declared.head.Head.TheVariants as heads
+use Rattle.ir_lex.specs.declared.token_kind.TokenKind.{TokenKind}
+use Rattle.ir_lex.specs.declared.token_kind.TokenKind.TheVariants as kinds
 use Rattle.ir_read.specs.Alphabet.{contains}
 use Rattle.ir_read.specs.Forms.{Form}
 use Rattle.ir_read.specs.Literals.{literal}
@@ -30,7 +30,7 @@ width_within t = by (width_of (drop 1 t.text))
     by n = (omega arith, omega arith)
 
 pub reg_is : (t : Tok) → IsReg (reg_of t)
-reg_is t = by (nat_eq (number t.head) (number heads.Ptr))
+reg_is t = by (nat_eq (number t.kind) (number kinds.Ptr))
   where
     by : (b : Bool) → IsReg (if b then Ptr else Int (width t))
     by true = tt
@@ -46,7 +46,7 @@ pub bit_written : Means bit IsWidth
 bit_written = exact_means _ _ _ _ (λ t s c. width_within t)
 
 result_is : (t : Tok) → IsResult (result_of t)
-result_is t = by (nat_eq (number t.head) (number heads.Void))
+result_is t = by (nat_eq (number t.kind) (number kinds.Void))
   where
     by : (b : Bool) → IsResult (if b then None else Some (reg_of t))
     by true = tt
@@ -56,20 +56,20 @@ pub result_written : Means result IsResult
 result_written = among_means _ _ _ (λ t s c. result_is t)
 
 -- a pointer, or of the class of integers in memory
-pub scalar_is : (t : Tok) → IsSized t → contains SCALAR (number t.head) ≡ true → IsScalar (reg_of t)
-scalar_is t s c = by (nat_eq (number t.head) (number heads.Ptr)) refl
+pub scalar_is : (t : Tok) → IsSized t → contains SCALAR (number t.kind) ≡ true → IsScalar (reg_of t)
+scalar_is t s c = by (nat_eq (number t.kind) (number kinds.Ptr)) refl
   where
-    by : (b : Bool) → nat_eq (number t.head) (number heads.Ptr) ≡ b → IsScalar (if b then Ptr else Int (width t))
+    by : (b : Bool) → nat_eq (number t.kind) (number kinds.Ptr) ≡ b → IsScalar (if b then Ptr else Int (width t))
     by true e = tt
-    by false e = at (or_cases (nat_eq (number t.head) (number heads.MemoryInteger)) (nat_eq (number t.head) (number heads.Ptr) || false) c)
+    by false e = at (or_cases (nat_eq (number t.kind) (number kinds.MemoryInteger)) (nat_eq (number t.kind) (number kinds.Ptr) || false) c)
       where
         none : (b : Bool) → b ≡ false → b || false ≡ true → ⊥
         none true g h = absurd cc
         none false g h = absurd cc
 
-        at : (nat_eq (number t.head) (number heads.MemoryInteger) ≡ true) ⊎ ((nat_eq (number t.head) (number heads.Ptr) || false) ≡ true) → IsStored (width t)
-        at (inl g) = s.stored (eqb-true (number t.head) (number heads.MemoryInteger) g)
-        at (inr g) = absurd (none (nat_eq (number t.head) (number heads.Ptr)) e g)
+        at : (nat_eq (number t.kind) (number kinds.MemoryInteger) ≡ true) ⊎ ((nat_eq (number t.kind) (number kinds.Ptr) || false) ≡ true) → IsStored (width t)
+        at (inl g) = s.stored (eqb-true (number t.kind) (number kinds.MemoryInteger) g)
+        at (inr g) = absurd (none (nat_eq (number t.kind) (number kinds.Ptr)) e g)
 
 pub scalar_written : Means scalar IsScalar
 scalar_written = among_means _ _ _ scalar_is
@@ -90,20 +90,20 @@ bits_written Ptr h t o e = absurd cc
 pub one_bit : IsWidth 1
 one_bit = (omega arith, omega arith)
 
-by_class : (head : Head) (r : Reg) → IsReg r → (t : Tok) (o : Operand) → operand_by head r t ≡ Some o → OperandWritten o
-by_class heads.Number r h t o e = bits_written r h t o e
-by_class heads.Local r h t o e = let m = mapped operands.Local (named t) o e in subst OperandWritten m.2 tt
-by_class heads.True r h t o e = let same : operands.Number 1 1 ≡ o = cc in subst OperandWritten same (one_bit, omega arith)
-by_class heads.False r h t o e = let same : operands.Number 1 0 ≡ o = cc in subst OperandWritten same (one_bit, omega arith)
-by_class heads.Null r h t o e = let same : operands.Null ≡ o = cc in subst OperandWritten same tt
-by_class heads.Poison r h t o e = let same : operands.Poison r ≡ o = cc in subst OperandWritten same h
-by_class heads.Global r h t o e = let same : operands.Global t ≡ o = cc in subst OperandWritten same tt
-by_class heads.NumberedGlobal r h t o e = let m = mapped operands.Global (named t) o e in subst OperandWritten m.2 tt
-by_class heads.NumberedDefinition r h t o e = let m = mapped operands.Global (named t) o e in subst OperandWritten m.2 tt
+by_class : (head : TokenKind) (r : Reg) → IsReg r → (t : Tok) (o : Operand) → operand_by head r t ≡ Some o → OperandWritten o
+by_class kinds.Number r h t o e = bits_written r h t o e
+by_class kinds.Local r h t o e = let m = mapped operands.Local (named t) o e in subst OperandWritten m.2 tt
+by_class kinds.True r h t o e = let same : operands.Number 1 1 ≡ o = cc in subst OperandWritten same (one_bit, omega arith)
+by_class kinds.False r h t o e = let same : operands.Number 1 0 ≡ o = cc in subst OperandWritten same (one_bit, omega arith)
+by_class kinds.Null r h t o e = let same : operands.Null ≡ o = cc in subst OperandWritten same tt
+by_class kinds.Poison r h t o e = let same : operands.Poison r ≡ o = cc in subst OperandWritten same h
+by_class kinds.Global r h t o e = let same : operands.Global t ≡ o = cc in subst OperandWritten same tt
+by_class kinds.NumberedGlobal r h t o e = let m = mapped operands.Global (named t) o e in subst OperandWritten m.2 tt
+by_class kinds.NumberedDefinition r h t o e = let m = mapped operands.Global (named t) o e in subst OperandWritten m.2 tt
 by_class head r h t o e = absurd cc
 
-pub token_written : (r : Reg) → IsReg r → (t : Tok) (o : Operand) → operand_by t.head r t ≡ Some o → OperandWritten o
-token_written r h t o e = by_class t.head r h t o e
+pub token_written : (r : Reg) → IsReg r → (t : Tok) (o : Operand) → operand_by t.kind r t ≡ Some o → OperandWritten o
+token_written r h t o e = by_class t.kind r h t o e
 
 pub simple_written : (r : Reg) → IsReg r → Means (simple r) OperandWritten
 simple_written r h = valued_means _ _ (λ t o s e. token_written r h t o e)

@@ -6,37 +6,37 @@ use Rattle.ir_read.specs.declared.fault.TokenFault.TheVariants.{Limit}
 use Rattle.ir_tree.specs.declared.failure.Failure.{Failure}
 use Rattle.ir_tree.specs.declared.failure.Failure.TheVariants as errors
 use Rattle.ir_read.specs.Alphabet.{among}
-use Rattle.ir_read.specs.Readers.{Reader, Fails, Gives, done, fault_at, follow, ◌>>=◌, next_is}
+use Rattle.ir_read.specs.Readers.{Reader, Fails, Returns, done, fault_at, follow, ◌>>=◌, next_is}
 use Rattle.ir_read.specs.Classes.{tokens}
 use Rattle.ir_read.specs.declared.places.Before.{Before}
 use Rattle.ir_read.specs.declared.places.Position.{Position}
 use Rattle.ir_read.specs.declared.raw.Item.{Item}
-use Rattle.ir_parse.specs.ItemForms.{Found, at_place, keep}
+use Rattle.ir_parse.specs.ItemForms.{ParsedItem, at_place, keep}
 use Rattle.ir_parse.specs.ItemFormsAt.{NAMING, naming_at, named_at, named_within_at, beside_at, other_at, piece_at}
 use Rattle.ir_parse.specs.Putting.{behind_at}
 
 abbrev kept_to : {S : Type 0} → List Item → Option Item × S → Reader Tok (List Item × S)
 kept_to front x = done (keep front x.0, x.1)
 
-abbrev placed : ℕ → Reader Tok Found → Reader Tok (Option Item × Position)
+abbrev placed : ℕ → Reader Tok ParsedItem → Reader Tok (Option Item × Position)
 placed names f = f >>= λ x. done (at_place names x)
 
 abbrev at_names : ℕ → List Item × Before → Reader Tok (List Item × Position)
 at_names names y = done (y.0, record { before = y.1; names = names })
 
 -- the names that are left, behind what was put
-behind_placed : (front : List Item) (names : ℕ) (f : Reader Tok Found) (ts : List Tok) → behind_at front (placed names f) ts ≡ follow (behind_at front f ts) (at_names names)
+behind_placed : (front : List Item) (names : ℕ) (f : Reader Tok ParsedItem) (ts : List Tok) → behind_at front (placed names f) ts ≡ follow (behind_at front f ts) (at_names names)
 unfolding behind_at
 behind_placed front names f ts = by_result (f ts)
   where
-    by_result : (r : Result (Found × List Tok) Fault) → follow (follow r (λ x. done (at_place names x))) (kept_to front) ≡ follow (follow r (kept_to front)) (at_names names)
+    by_result : (r : Result (ParsedItem × List Tok) Fault) → follow (follow r (λ x. done (at_place names x))) (kept_to front) ≡ follow (follow r (kept_to front)) (at_names names)
     by_result (Ok x) = refl
     by_result (Err e) = refl
 
-placed_gives : (front new : List Item) (names : ℕ) (f : Reader Tok Found) (ts rest : List Tok) (b : Before) → behind_at front f ts ≡ Ok ((new, b), rest) → behind_at front (placed names f) ts ≡ Ok ((new, record { before = b; names = names }), rest)
+placed_gives : (front new : List Item) (names : ℕ) (f : Reader Tok ParsedItem) (ts rest : List Tok) (b : Before) → behind_at front f ts ≡ Ok ((new, b), rest) → behind_at front (placed names f) ts ≡ Ok ((new, record { before = b; names = names }), rest)
 placed_gives front new names f ts rest b h = behind_placed front names f ts ∙ ap (λ (r : Result ((List Item × Before) × List Tok) Fault). follow r (at_names names)) h
 
-placed_fails : (front : List Item) (names : ℕ) (f : Reader Tok Found) (ts : List Tok) (e : Failure Fault) → Fails e (behind_at front f ts) → Fails e (behind_at front (placed names f) ts)
+placed_fails : (front : List Item) (names : ℕ) (f : Reader Tok ParsedItem) (ts : List Tok) (e : Failure Fault) → Fails e (behind_at front f ts) → Fails e (behind_at front (placed names f) ts)
 placed_fails front names f ts errors.NoMemory h = tt
 placed_fails front names f ts (errors.Fault e) h = behind_placed front names f ts ∙ ap (λ (r : Result ((List Item × Before) × List Tok) Fault). follow r (at_names names)) h
 
@@ -78,7 +78,7 @@ unfolding behind_at piece_at other_at
 pick_other front room at [] n = refl
 pick_other front room at (t ∷ ts) n = rw (sym n) refl
 
-pub piece_named : (front new : List Item) (room : ℕ) (at : Position) (ts rest : List Tok) (r : Result Position (Failure Fault)) → true ≡ next_is (among tokens NAMING) ts → Gives (λ p. ((new, p), rest)) r (behind_at front (named_within_at room at.names) ts) → Gives (λ p. ((new, p), rest)) r (behind_at front (piece_at room at.before at.names) ts)
+pub piece_named : (front new : List Item) (room : ℕ) (at : Position) (ts rest : List Tok) (r : Result Position (Failure Fault)) → true ≡ next_is (among tokens NAMING) ts → Returns (λ p. ((new, p), rest)) r (behind_at front (named_within_at room at.names) ts) → Returns (λ p. ((new, p), rest)) r (behind_at front (piece_at room at.before at.names) ts)
 piece_named front new room at ts rest (Ok p) n h = pick_one front room at ts n ∙ h
 piece_named front new room at ts rest (Err errors.NoMemory) n h = tt
 piece_named front new room at ts rest (Err (errors.Fault e)) n h = pick_one front room at ts n ∙ h

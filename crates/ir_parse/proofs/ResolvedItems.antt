@@ -10,12 +10,12 @@ use Rattle.ir_read.specs.declared.raw.Case as raw_case
 use Rattle.ir_read.specs.declared.raw.Incoming as raw_incoming
 use Rattle.ir_read.specs.declared.raw.Instr as raw_instr
 use Rattle.ir_read.specs.declared.raw.Instr.TheVariants as ri
-use Rattle.ir_read.specs.declared.raw.Line as raw_line
+use Rattle.ir_read.specs.declared.raw.WrittenLine as raw_line
 use Rattle.ir_read.specs.declared.raw.Operand as raw_operand
 use Rattle.ir_read.specs.declared.raw.Operand.TheVariants as ro
 use Rattle.ir_read.specs.declared.raw.Terminator as raw_end
 use Rattle.ir_read.specs.declared.raw.Terminator.TheVariants as re
-use Rattle.ir_tree.specs.Flow.{targets}
+use Rattle.ir_tree.specs.Flow.{successors}
 use Rattle.ir_tree.specs.Formed.{ArgumentFormed, CaseFormed, CasesFormed, InstrFormed, IsBlock, IsLocal, IsReg, IsShape, IsWidth, ItemFormed, OperandFormed, ResultFormed}
 use Rattle.ir_tree.specs.Items.{phi_item, line_item, end_item, block_items, items_from, lines_from, end_reads, phi_reads, reads, taken, taken_as}
 use Rattle.ir_tree.specs.Layout.{align}
@@ -37,9 +37,9 @@ use Rattle.ir_names.specs.declared.locals.Sort.TheVariants.{Value, Block}
 use Rattle.ir_names.specs.Addresses.{offset_behind}
 use Rattle.named_values.specs.Blocks.{phi_of, phis_of, rest_of, phi_before, lines_behind, body_of, block_of, block_in, blocks_in, behind_block}
 use Rattle.ir_names.specs.Bodies.{align_or, argument_in, behind_line, case_in, end_in, incoming_in, instr_in, lines_in, local_at, operand_in, reg_align}
-use Rattle.ir_names.specs.Locals.{Known, number_in}
+use Rattle.ir_names.specs.Locals.{LocalTable, number_in}
 use Rattle.ir_names.specs.Numbering.{has_result}
-use Rattle.ir_names.specs.Settled.{each}
+use Rattle.ir_names.specs.Resolving.{each}
 use Rattle.ir_names.specs.Symbols.{symbol_of}
 use Rattle.ir_names.specs.Types.{Types}
 use Rattle.ir_parse.specs.Written.{ArgumentWritten, BlockWritten, CaseWritten, EndWritten, InstrWritten, LineWritten, NameWritten, OperandWritten, TypesWritten}
@@ -68,7 +68,7 @@ record LineFormed (f : Function) (l : Line) : Type 0 where
 record EndGood (f : Function) (t : Terminator) : Type 0 where
   operands : Each (ArgumentFormed f) (end_reads t)
   cases : CasesFormed t
-  targets : Each (IsBlock f) (targets t)
+  targets : Each (IsBlock f) (successors t)
 
 abbrev TargetFormed : Function → tree_case.Case → Type 0
 TargetFormed f c = CaseFormed c × IsBlock f c.target
@@ -110,7 +110,7 @@ bit = (omega arith, omega arith)
 
 -- ---- operands, lines and terminators, where what resolves to a place is there
 
-module _ (types : Types) (are : TypesWritten types) (known : Known) (f : Function) (values : (n : ℕ) → IsPlace known Value n → IsLocal f n) (blocks : (n : ℕ) → IsPlace known Block n → IsBlock f n) where
+module _ (types : Types) (are : TypesWritten types) (known : LocalTable) (f : Function) (values : (n : ℕ) → IsPlace known Value n → IsLocal f n) (blocks : (n : ℕ) → IsPlace known Block n → IsBlock f n) where
   target_there : (name : Tok) → Gives (number_in known Block name) (IsBlock f)
   target_there name = record { given = λ n e. blocks n ((used known Block name).given n e) }
 
@@ -214,7 +214,7 @@ module _ (types : Types) (are : TypesWritten types) (known : Known) (f : Functio
       (record { operands = ((h.0, hv), tt); cases = All-from_recursion CaseFormed cs (cases_formed f cs hcs); targets = (hd, cases_there f cs hcs) }))))
   end_formed re.Unreachable h = gives (EndGood f) te.Unreachable (record { operands = tt; cases = tt; targets = tt })
 
-  lines_formed : (n : ℕ) (ls : List raw_line.Line) → Each LineWritten ls → Gives (lines_in types known n ls) (Each (LineFormed f))
+  lines_formed : (n : ℕ) (ls : List raw_line.WrittenLine) → Each LineWritten ls → Gives (lines_in types known n ls) (Each (LineFormed f))
   lines_formed n [] h = gives (Each (LineFormed f)) [] tt
   lines_formed n (l ∷ ls) h =
       bind (InstrGood f l.instr) (Each (LineFormed f)) _ _ (instr_formed l.instr h.0.0) (λ i g.
@@ -256,7 +256,7 @@ lines_items f b k (l ∷ ls) h =
 end_item_formed : (f : Function) (b : ℕ) (t : Terminator) → EndGood f t → All (ItemFormed f) (end_item b t ∷ [])
 end_item_formed f b t h =
     All-cons (ItemFormed f) (end_item b t) []
-    (record { operands = All-from_recursion (ArgumentFormed f) (end_reads t) h.operands; sources = All-nil (λ e. IsBlock f e.from); kind = (h.cases, All-from_recursion (IsBlock f) (targets t) h.targets) })
+    (record { operands = All-from_recursion (ArgumentFormed f) (end_reads t) h.operands; sources = All-nil (λ e. IsBlock f e.from); kind = (h.cases, All-from_recursion (IsBlock f) (successors t) h.targets) })
     (All-nil (ItemFormed f))
 
 abbrev BlockFormed : Function → tree_block.Block → Type 0
@@ -268,7 +268,7 @@ together f b ls t h e =
     All-append (ItemFormed f) (map (phi_item b) (phis_of ls)) (lines_from b 0 (rest_of ls) ++ end_item b t ∷ []) (phis_formed f b ls h)
     (All-append (ItemFormed f) (lines_from b 0 (rest_of ls)) (end_item b t ∷ []) (lines_items f b 0 (rest_of ls) (rest_formed f ls h)) (end_item_formed f b t e))
 
-module _ (types : Types) (are : TypesWritten types) (known : Known) (f : Function) (values : (n : ℕ) → IsPlace known Value n → IsLocal f n) (blocks : (n : ℕ) → IsPlace known Block n → IsBlock f n) where
+module _ (types : Types) (are : TypesWritten types) (known : LocalTable) (f : Function) (values : (n : ℕ) → IsPlace known Value n → IsLocal f n) (blocks : (n : ℕ) → IsPlace known Block n → IsBlock f n) where
   block_formed : (n : ℕ) (b : raw_block.Block) → BlockWritten b → Gives (block_in types known n b) (BlockFormed f)
   unfolding block_of
   block_formed n b h =

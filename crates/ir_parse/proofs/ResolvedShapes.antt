@@ -14,7 +14,7 @@ use Rattle.ir_names.specs.declared.fault.Fault.{Fault}
 use Rattle.ir_names.specs.Bodies.{allocated}
 use Rattle.ir_names.specs.Keys.{Key, key_of, same_key}
 use Rattle.ir_names.specs.Locals.{unknown}
-use Rattle.ir_names.specs.Settled.{each}
+use Rattle.ir_names.specs.Resolving.{each}
 use Rattle.ir_names.specs.Types.{Types, limit, or_unknown, entry_of, entry_in, shape_in, head_from, head_of, is_width, scalar, within, opened, without_parts, expand, expanded, array_of}
 use Rattle.ir_parse.specs.Resolved.{ShapesAreWithin}
 use Rattle.ir_parse.specs.Written.{ShapeWritten, PartsWritten, TypeWritten, TypesWritten}

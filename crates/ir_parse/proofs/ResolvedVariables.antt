@@ -29,7 +29,7 @@ use Rattle.ir_names.specs.declared.locals.Sort.TheVariants.{Value}
 use Rattle.ir_names.specs.Addresses.{offset_behind}
 use Rattle.ir_names.specs.Bodies.{align_or, operand_in}
 use Rattle.ir_names.specs.Locals.{none_known}
-use Rattle.ir_names.specs.Settled.{◌>>=◌}
+use Rattle.ir_names.specs.Resolving.{◌>>=◌}
 use Rattle.ir_names.specs.Symbols.{symbol_of}
 use Rattle.ir_names.specs.Types.{Types, is_width, expanded}
 use Rattle.ir_names.specs.Variables.{constant_for, constant_type, head_in, init_if, init_in, literal_or, number_for, part_in, variable_in}
@@ -97,7 +97,7 @@ number_formed (structure packed parts) t = ((omega arith, omega arith), omega ar
 head_formed : (types : Types) (f : Form) → IsReg (constant_type f) → (h : raw_head.InitHead) → HeadWritten h → Gives (head_in types none_known f h) HeadFormed
 head_formed types f t (rh.Plain operand) w = bind ConstantFormed HeadFormed _ _ (constant_formed types operand w) (λ o g. gives HeadFormed (th.Plain (constant_for f o)) (for_formed f t o g))
 head_formed types f t rh.Zeros w = gives HeadFormed th.Zeros tt
-head_formed types f t (rh.Bytes string) w = gives HeadFormed (th.Bytes (content string.kind string.text)) tt
+head_formed types f t (rh.Bytes string) w = gives HeadFormed (th.Bytes (content string.form string.text)) tt
 head_formed types f t (rh.Number number) w = gives HeadFormed (th.Plain (number_for f number)) (number_formed f number)
 head_formed types f t rh.Array w = gives HeadFormed th.Array tt
 head_formed types f t (rh.Struct packed) w = gives HeadFormed (th.Struct packed) tt

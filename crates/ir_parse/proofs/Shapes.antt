@@ -2,9 +2,9 @@
 use Rattle.std.proofs.Common.{◌≡◌, ℕ, zero, suc, nat_eq, ◌&&◌, Bool, true, false, cond, List, [], ◌∷◌, Some, Ok, refl, subst, if◌then◌else◌}
 use Rattle.std.specs.List.{AllByRecursion as Each}
 use Rattle.std.proofs.lemmas.Bool.{and_parts}
-use Rattle.ir_lex.specs.Heads.{number}
+use Rattle.ir_lex.specs.TokenKinds.{number}
 use Rattle.ir_lex.specs.Tok.{Tok}
-use Rattle.ir_lex.specs.declared.head.Head.TheVariants as heads
+use Rattle.ir_lex.specs.declared.token_kind.TokenKind.TheVariants as kinds
 use Rattle.ir_read.specs.Alphabet.{contains}
 use Rattle.ir_read.specs.Forms.{Form}
 use Rattle.ir_read.specs.Rules.{in_range, is_valued}
@@ -35,8 +35,8 @@ of_name t name = typed (written.named name) t.line
 name_written : (t : Tok) (a : Typed) → type_name t ≡ Some a → TypedWritten a
 name_written t a e = let m = mapped (of_name t) (named t) a e in subst TypedWritten m.2 tt
 
-scalar_shape : (t : Tok) → IsSized t → contains SCALAR (number t.head) ≡ true → TypedWritten (scalar_typed t)
-scalar_shape t s c = by (nat_eq (number t.head) (number heads.Ptr)) (scalar_is t s c)
+scalar_shape : (t : Tok) → IsSized t → contains SCALAR (number t.kind) ≡ true → TypedWritten (scalar_typed t)
+scalar_shape t s c = by (nat_eq (number t.kind) (number kinds.Ptr)) (scalar_is t s c)
   where
     by : (b : Bool) → IsScalar (if b then Ptr else Int (width t)) → ShapeWritten (if b then pointer else int (width t))
     by true h = tt
@@ -44,15 +44,15 @@ scalar_shape t s c = by (nat_eq (number t.head) (number heads.Ptr)) (scalar_is t
 
 leaf_written : (room : Room) → Means (leaf room) TypedWritten
 unfolding is_leaf is_valued
-leaf_written room = token_means (λ t a s h. by t a s (contains SCALAR (number t.head) && has_room room t) refl h)
+leaf_written room = token_means (λ t a s h. by t a s (contains SCALAR (number t.kind) && has_room room t) refl h)
   where
-    by : (t : Tok) (a : Typed) → IsSized t → (b : Bool) → contains SCALAR (number t.head) && has_room room t ≡ b
+    by : (t : Tok) (a : Typed) → IsSized t → (b : Bool) → contains SCALAR (number t.kind) && has_room room t ≡ b
         → cond b (Ok (scalar_typed t)) (is_valued tokens memory_refusal LOCAL type_name t) ≡ Ok a → TypedWritten a
     by t a s true c e =
         let same : scalar_typed t ≡ a = cc (e) in
-        subst TypedWritten same (scalar_shape t s (and_parts (contains SCALAR (number t.head)) (has_room room t) c).0)
+        subst TypedWritten same (scalar_shape t s (and_parts (contains SCALAR (number t.kind)) (has_room room t) c).0)
     by t a s false c e =
-        let yes = accepted (contains LOCAL (number t.head)) (in_range (type_name t)) (memory_refusal (number t.head)) a e in name_written t a (valued (type_name t) a yes.1)
+        let yes = accepted (contains LOCAL (number t.kind)) (in_range (type_name t)) (memory_refusal (number t.kind)) a e in name_written t a (valued (type_name t) a yes.1)
 
 -- ---- arrays and structures
 

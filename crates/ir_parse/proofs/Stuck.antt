@@ -1,7 +1,7 @@
 -- Where the grammar reads a list of tokens, and where it stops.
 use Rattle.std.proofs.Common.{◌≡◌, ℕ, zero, suc, ◌-◌, ◌<◌, Bool, true, false, ◌⊎◌, inl, inr, List, [], ◌∷◌, ◌++◌, length, drop, Result, Ok, Err, refl, sym, ap, subst, ◌∙◌, append_assoc, arith}
 use Rattle.std.proofs.lemmas.List.{append-nil, length-append, length-map, drop-map}
-use Rattle.ir_lex.specs.Heads.{number}
+use Rattle.ir_lex.specs.TokenKinds.{number}
 use Rattle.ir_lex.specs.Tok.{Tok, tok, toks}
 use Rattle.ir_lex.specs.declared.token.Token.{Token}
 use Rattle.ir_read.specs.Alphabet.{among}
@@ -35,7 +35,7 @@ unfolding whole_module any_module
 module_law = (items_rule FURTHER_PARAMETERS GLOBAL_NAMES).law
 
 item_not_number : (t : Tok) → item_refusal t ≡ Number → ⊥
-item_not_number t e = name_not_number (number t.head) e
+item_not_number t e = name_not_number (number t.kind) e
 
 -- what the grammar has is read
 pub read_again : (ts : List Tok) (is : List Item) → whole_module ts is → module_of ts ≡ Ok is

@@ -1,8 +1,8 @@
 -- Where the grammar stops, its fault is told for what the token at which it does is refused for; and a token is refused for one thing.
 use Rattle.std.proofs.Common.{◌≡◌, ℕ, Bool, true, false, cond, ◌||◌, ◌⊎◌, inl, inr, List, [], ◌∷◌, ◌++◌, length, refl, sym, ap, subst, ◌∙◌, append_assoc}
-use Rattle.ir_lex.specs.Heads.{number}
+use Rattle.ir_lex.specs.TokenKinds.{number}
 use Rattle.ir_lex.specs.Tok.{Tok}
-use Rattle.ir_lex.specs.declared.head.Head.TheVariants as heads
+use Rattle.ir_lex.specs.declared.token_kind.TokenKind.TheVariants as kinds
 use Rattle.ir_read.specs.Alphabet.{among, contains, is_literal}
 use Rattle.ir_read.specs.Faults as faults
 use Rattle.ir_read.specs.Faults.{FitsBound, FitsKind}
@@ -18,7 +18,7 @@ use Rattle.ir_parse.specs.Modules.{any_module, module_of, whole_module}
 use Rattle.ir_parse.specs.Kinds.{grammar_fault}
 use Rattle.ir_parse.specs.Refusals.{BeginsVector, GoesOn, INTEGER, IsRefusedFor, LeftOut, MARKER, NumberGoesOn, REFUSED_EVERYWHERE, TARGET, TYPE, WithinRange, everywhere, of_integer, of_marker, of_name, of_target, of_type, of_vector}
 use Rattle.ir_tree.specs.declared.fault_kind.FaultKind.{FaultKind}
-use Rattle.ir_tree.specs.declared.fault_kind.FaultKind.TheVariants as kinds
+use Rattle.ir_tree.specs.declared.fault_kind.FaultKind.TheVariants as unread
 use Rattle.ir_parse.proofs.ExchangedPlaces.{left_out, no_string, not_left_out, string_left_out}
 use Rattle.ir_parse.proofs.Told.{AllowedAt, REFUSED_SOMEWHERE, never_class}
 use Rattle.ir_parse.proofs.ToldModules.{module_kind, module_limit, module_told}
@@ -51,9 +51,9 @@ module _ (front : List Tok) (t : Tok) (rest : List Tok) where
   other_number v =
       let c = cut_is front (t ∷ rest) v.front (v.bad ∷ v.rest) v.whole (sym v.here) in
       let bad : t ≡ v.bad = (cons_is t v.bad rest v.rest c.1).0 in (
-        ap (λ (u : Tok). contains tokens.numerals (number u.head)) bad ∙ v.bad_is,
+        ap (λ (u : Tok). contains tokens.numerals (number u.kind)) bad ∙ v.bad_is,
         v.good,
-        v.good_is ∙ ap (λ (u : Tok). number u.head) (sym bad),
+        v.good_is ∙ ap (λ (u : Tok). number u.kind) (sym bad),
         v.real.0,
         (v.more, v.value, subst (λ (us : List Tok). whole_module us v.value) (ap (λ (us : List Tok). us ++ v.good ∷ v.more) (sym c.0) ∙ sym (append_assoc front (v.good ∷ []) v.more)) v.spelled, v.real.1),
       )
@@ -72,15 +72,15 @@ module _ (front : List Tok) (t : Tok) (rest : List Tok) where
   Refused k = module_of ts ≡ wrong (record { left = left; kind = k })
 
   -- what the next token allows, but for a string
-  somewhere : among tokens STRING t ≡ false → AllowedAt front (t ∷ rest) Profile → (contains (REFUSED_EVERYWHERE ++ REFUSED_SOMEWHERE) (number t.head) ≡ true) ⊎ BeginsVector front t
+  somewhere : among tokens STRING t ≡ false → AllowedAt front (t ∷ rest) Profile → (contains (REFUSED_EVERYWHERE ++ REFUSED_SOMEWHERE) (number t.kind) ≡ true) ⊎ BeginsVector front t
   somewhere e (inl may) = inl (behind_first _ _ e may)
   somewhere e (inr v) = inr v
 
-  everywhere_not : AllowedAt front (t ∷ rest) Syntax → contains REFUSED_EVERYWHERE (number t.head) ≡ false
+  everywhere_not : AllowedAt front (t ∷ rest) Syntax → contains REFUSED_EVERYWHERE (number t.kind) ≡ false
   everywhere_not (inl a) = a
-  everywhere_not (inr v) = never_class (number heads.Number) refl (number t.head) v.0
+  everywhere_not (inr v) = never_class (number kinds.Number) refl (number t.kind) v.0
 
-  by_string : (b : Bool) → among tokens STRING t ≡ b → Refused Profile → AllowedAt front (t ∷ rest) Profile → WithinRange front t → IsRefusedFor front t (cond b kinds.Layout (kinds.Profile t.text))
+  by_string : (b : Bool) → among tokens STRING t ≡ b → Refused Profile → AllowedAt front (t ∷ rest) Profile → WithinRange front t → IsRefusedFor front t (cond b unread.Layout (unread.Profile t.text))
   by_string true c e a w = (w, string_left_out front t rest e c)
   by_string false c e a w = (refl, w, left_out front t rest e (somewhere c a))
 
@@ -102,50 +102,50 @@ module _ (front : List Tok) (t : Tok) (rest : List Tok) where
 module _ (front : List Tok) (t : Tok) where
   -- no string is left out as a word
   no_string_left_out : among tokens STRING t ≡ true → LeftOut front t → ⊥
-  no_string_left_out s (everywhere c) = apart_from STRING REFUSED_EVERYWHERE refl (number t.head) s c
-  no_string_left_out s (of_type c g) = apart_from STRING TYPE refl (number t.head) s c
-  no_string_left_out s (of_target c g w) = apart_from STRING TARGET refl (number t.head) s c
-  no_string_left_out s (of_integer c g) = apart_from STRING INTEGER refl (number t.head) s c
-  no_string_left_out s (of_name c g) = apart_from STRING NUMBERED refl (number t.head) s c
-  no_string_left_out s (of_marker c v) = apart_from STRING MARKER refl (number t.head) s c
-  no_string_left_out s (of_vector v g) = apart_from STRING (number heads.Number ∷ []) refl (number t.head) s (ap (λ (b : Bool). b || false) v.0)
+  no_string_left_out s (everywhere c) = apart_from STRING REFUSED_EVERYWHERE refl (number t.kind) s c
+  no_string_left_out s (of_type c g) = apart_from STRING TYPE refl (number t.kind) s c
+  no_string_left_out s (of_target c g w) = apart_from STRING TARGET refl (number t.kind) s c
+  no_string_left_out s (of_integer c g) = apart_from STRING INTEGER refl (number t.kind) s c
+  no_string_left_out s (of_name c g) = apart_from STRING NUMBERED refl (number t.kind) s c
+  no_string_left_out s (of_marker c v) = apart_from STRING MARKER refl (number t.kind) s c
+  no_string_left_out s (of_vector v g) = apart_from STRING (number kinds.Number ∷ []) refl (number t.kind) s (ap (λ (b : Bool). b || false) v.0)
 
   both : true ≡ false → ⊥
   both e = cc
 
   -- a limit and a range are told apart by whether it is a literal
-  no_limit_and_number : IsRefusedFor front t kinds.Limit → IsRefusedFor front t kinds.Number → ⊥
+  no_limit_and_number : IsRefusedFor front t unread.Limit → IsRefusedFor front t unread.Number → ⊥
   no_limit_and_number l n = both (sym (l.1 n.0) ∙ n.1 l.0)
 
   pub one_kind : (kind other : FaultKind) → IsRefusedFor front t kind → IsRefusedFor front t other → kind ≡ other
-  one_kind kinds.Limit kinds.Limit a b = refl
-  one_kind kinds.Limit kinds.Number a b = absurd (no_limit_and_number a b)
-  one_kind kinds.Limit kinds.Layout a b = absurd (b.0.0 a.0)
-  one_kind kinds.Limit (kinds.Profile word) a b = absurd (b.1.0 a.0)
-  one_kind kinds.Limit kinds.Syntax a b = absurd (b.0.0 a.0)
-  one_kind kinds.Limit other a b = absurd b
-  one_kind kinds.Number kinds.Limit a b = absurd (no_limit_and_number b a)
-  one_kind kinds.Number kinds.Number a b = refl
-  one_kind kinds.Number kinds.Layout a b = absurd (b.0.1 a.0)
-  one_kind kinds.Number (kinds.Profile word) a b = absurd (b.1.1 a.0)
-  one_kind kinds.Number kinds.Syntax a b = absurd (b.0.1 a.0)
-  one_kind kinds.Number other a b = absurd b
-  one_kind kinds.Layout kinds.Limit a b = absurd (a.0.0 b.0)
-  one_kind kinds.Layout kinds.Number a b = absurd (a.0.1 b.0)
-  one_kind kinds.Layout kinds.Layout a b = refl
-  one_kind kinds.Layout (kinds.Profile word) a b = absurd (no_string_left_out a.1.0 b.2)
-  one_kind kinds.Layout kinds.Syntax a b = absurd (b.1 a.1)
-  one_kind kinds.Layout other a b = absurd b
-  one_kind (kinds.Profile word) kinds.Limit a b = absurd (a.1.0 b.0)
-  one_kind (kinds.Profile word) kinds.Number a b = absurd (a.1.1 b.0)
-  one_kind (kinds.Profile word) kinds.Layout a b = absurd (no_string_left_out b.1.0 a.2)
-  one_kind (kinds.Profile word) (kinds.Profile other) a b = ap (λ (w : List ℕ). kinds.Profile w) (a.0 ∙ sym b.0)
-  one_kind (kinds.Profile word) kinds.Syntax a b = absurd (b.2 a.2)
-  one_kind (kinds.Profile word) other a b = absurd b
-  one_kind kinds.Syntax kinds.Limit a b = absurd (a.0.0 b.0)
-  one_kind kinds.Syntax kinds.Number a b = absurd (a.0.1 b.0)
-  one_kind kinds.Syntax kinds.Layout a b = absurd (a.1 b.1)
-  one_kind kinds.Syntax (kinds.Profile word) a b = absurd (a.2 b.2)
-  one_kind kinds.Syntax kinds.Syntax a b = refl
-  one_kind kinds.Syntax other a b = absurd b
+  one_kind unread.Limit unread.Limit a b = refl
+  one_kind unread.Limit unread.Number a b = absurd (no_limit_and_number a b)
+  one_kind unread.Limit unread.Layout a b = absurd (b.0.0 a.0)
+  one_kind unread.Limit (unread.Profile word) a b = absurd (b.1.0 a.0)
+  one_kind unread.Limit unread.Syntax a b = absurd (b.0.0 a.0)
+  one_kind unread.Limit other a b = absurd b
+  one_kind unread.Number unread.Limit a b = absurd (no_limit_and_number b a)
+  one_kind unread.Number unread.Number a b = refl
+  one_kind unread.Number unread.Layout a b = absurd (b.0.1 a.0)
+  one_kind unread.Number (unread.Profile word) a b = absurd (b.1.1 a.0)
+  one_kind unread.Number unread.Syntax a b = absurd (b.0.1 a.0)
+  one_kind unread.Number other a b = absurd b
+  one_kind unread.Layout unread.Limit a b = absurd (a.0.0 b.0)
+  one_kind unread.Layout unread.Number a b = absurd (a.0.1 b.0)
+  one_kind unread.Layout unread.Layout a b = refl
+  one_kind unread.Layout (unread.Profile word) a b = absurd (no_string_left_out a.1.0 b.2)
+  one_kind unread.Layout unread.Syntax a b = absurd (b.1 a.1)
+  one_kind unread.Layout other a b = absurd b
+  one_kind (unread.Profile word) unread.Limit a b = absurd (a.1.0 b.0)
+  one_kind (unread.Profile word) unread.Number a b = absurd (a.1.1 b.0)
+  one_kind (unread.Profile word) unread.Layout a b = absurd (no_string_left_out b.1.0 a.2)
+  one_kind (unread.Profile word) (unread.Profile other) a b = ap (λ (w : List ℕ). unread.Profile w) (a.0 ∙ sym b.0)
+  one_kind (unread.Profile word) unread.Syntax a b = absurd (b.2 a.2)
+  one_kind (unread.Profile word) other a b = absurd b
+  one_kind unread.Syntax unread.Limit a b = absurd (a.0.0 b.0)
+  one_kind unread.Syntax unread.Number a b = absurd (a.0.1 b.0)
+  one_kind unread.Syntax unread.Layout a b = absurd (a.1 b.1)
+  one_kind unread.Syntax (unread.Profile word) a b = absurd (a.2 b.2)
+  one_kind unread.Syntax unread.Syntax a b = refl
+  one_kind unread.Syntax other a b = absurd b
   one_kind kind other a b = absurd a

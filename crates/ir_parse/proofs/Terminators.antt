@@ -2,8 +2,8 @@
 use Rattle.std.proofs.Common.{◌≡◌, ◌<◌, ◌^◌, Option, Some, None, subst, arith}
 use Rattle.std.proofs.lemmas.List.Elements.{All-from_recursion}
 use Rattle.ir_lex.specs.Tok.{Tok}
-use Rattle.ir_lex.specs.declared.head.Head.{Head}
-use Rattle.ir_lex.specs.declared.head.Head.TheVariants as heads
+use Rattle.ir_lex.specs.declared.token_kind.TokenKind.{TokenKind}
+use Rattle.ir_lex.specs.declared.token_kind.TokenKind.TheVariants as kinds
 use Rattle.ir_read.proofs.LiteralRange.{literal_fits}
 use Rattle.ir_read.specs.Literals.{literal}
 use Rattle.ir_operands.specs.ShapeForms.{memory_shape}
@@ -41,14 +41,14 @@ number_matched : (r : Reg) → IsReg r → (t : Tok) (m : Matched) → matched_n
 number_matched (Int w) h t m e = let found = mapped (matched w) (literal w t.text) m e in subst MatchedWritten found.2 (h, literal_fits w t.text found.0 found.1)
 number_matched Ptr h t m e = absurd cc
 
-matched_class : (head : Head) (r : Reg) → IsReg r → (t : Tok) (m : Matched) → matched_by head r t ≡ Some m → MatchedWritten m
-matched_class heads.Number r h t m e = number_matched r h t m e
-matched_class heads.True r h t m e = let same : matched 1 1 ≡ m = cc in subst MatchedWritten same (one_bit, omega arith)
-matched_class heads.False r h t m e = let same : matched 1 0 ≡ m = cc in subst MatchedWritten same (one_bit, omega arith)
+matched_class : (head : TokenKind) (r : Reg) → IsReg r → (t : Tok) (m : Matched) → matched_by head r t ≡ Some m → MatchedWritten m
+matched_class kinds.Number r h t m e = number_matched r h t m e
+matched_class kinds.True r h t m e = let same : matched 1 1 ≡ m = cc in subst MatchedWritten same (one_bit, omega arith)
+matched_class kinds.False r h t m e = let same : matched 1 0 ≡ m = cc in subst MatchedWritten same (one_bit, omega arith)
 matched_class head r h t m e = absurd cc
 
 constant_written : (r : Reg) → IsReg r → Means (constant r) MatchedWritten
-constant_written r h = valued_means _ _ (λ t m s e. matched_class t.head r h t m e)
+constant_written r h = valued_means _ _ (λ t m s e. matched_class t.kind r h t m e)
 
 case_of_written : (r : Reg) → IsReg r → Means (case_of r) CaseWritten
 unfolding case_of

@@ -3,16 +3,16 @@ use Rattle.std.proofs.Common.{nat_eq, List, [], ◌∷◌, sym, ap, ◌∙◌}
 use Rattle.std.specs.List.{AllByRecursion as Each}
 use Rattle.std.proofs.lemmas.List.Elements.{All-from_recursion}
 use Rattle.ir_lex.specs.Blanks.{Place, place}
-use Rattle.ir_lex.specs.Heads.{number}
+use Rattle.ir_lex.specs.TokenKinds.{number}
 use Rattle.ir_lex.specs.Lexing.{Lead, Next}
 use Rattle.ir_lex.specs.Tok.{Tok}
-use Rattle.ir_lex.specs.declared.head.Head.TheVariants as heads
+use Rattle.ir_lex.specs.declared.token_kind.TokenKind.TheVariants as kinds
 use Rattle.ir_parse.specs.Spelled.{FrontIsSized, TokensAreSized}
 use Rattle.ir_parse.specs.Sized.{IsSized}
 use Rattle.ir_parse.proofs.Words.{class_writes}
 
 next_sized : (at : Place) (t : Tok) (after : Place) → Next at t after → IsSized t
-next_sized at t after n = record { stored = λ e. (class_writes t.kind t.text after.bytes).stored (ap (λ h. nat_eq (number h) (number heads.MemoryInteger)) (sym n.head) ∙ ap (λ m. nat_eq m (number heads.MemoryInteger)) e) }
+next_sized at t after n = record { stored = λ e. (class_writes t.form t.text after.bytes).stored (ap (λ h. nat_eq (number h) (number kinds.MemoryInteger)) (sym n.kind) ∙ ap (λ m. nat_eq m (number kinds.MemoryInteger)) e) }
 
 all_sized : (at : Place) (ts : List Tok) (after : Place) → Lead at ts after → Each IsSized ts
 all_sized at [] after l = tt

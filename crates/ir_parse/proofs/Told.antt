@@ -1,9 +1,9 @@
 -- Readers whose first fault is of a kind that the token at which it stands allows. The ways of putting readers together keep that.
 use Rattle.std.proofs.Common.{◌≡◌, ℕ, zero, suc, ◌<◌, Bool, true, false, true≢false, cond, Option, Some, None, ◌&&◌, ◌||◌, not, List, [], ◌∷◌, ◌++◌, length, Result, Ok, Err, refl, sym, ap, subst, ◌∙◌, ◌⊎◌, inl, inr, arith, nat_eq}
 use Rattle.std.proofs.lemmas.List.{append-nil, append_assoc, length-append}
-use Rattle.ir_lex.specs.declared.head.Head.TheVariants as heads
-use Rattle.ir_lex.specs.declared.head.Head.{Head}
-use Rattle.ir_lex.specs.Heads.{number}
+use Rattle.ir_lex.specs.declared.token_kind.TokenKind.TheVariants as kinds
+use Rattle.ir_lex.specs.declared.token_kind.TokenKind.{TokenKind}
+use Rattle.ir_lex.specs.TokenKinds.{number}
 use Rattle.ir_lex.specs.Rows.{begins as begins_by}
 use Rattle.ir_lex.specs.Tok.{Tok}
 use Rattle.ir_read.specs.declared.fault.Fault.{Fault}
@@ -35,7 +35,7 @@ REFUSED_SOMEWHERE = MARKER ++ (TYPE ++ (TARGET ++ (INTEGER ++ NUMBERED)))
 
 -- what is told to be left out is one of these; at a string, a data layout is told not to be supported
 abbrev pub MAY : List ℕ
-MAY = number heads.Str ∷ (REFUSED_EVERYWHERE ++ REFUSED_SOMEWHERE)
+MAY = number kinds.Str ∷ (REFUSED_EVERYWHERE ++ REFUSED_SOMEWHERE)
 
 last_of : (p : Tok → Bool) (before : List Tok) (t : Tok) → p t ≡ true → last_is p (before ++ t ∷ []) ≡ true
 last_of p [] t h = h
@@ -52,7 +52,7 @@ Allowed class Limit = contains REFUSED_EVERYWHERE class ≡ false
 -- and a number directly behind `<`
 abbrev pub AllowedAt : List Tok → List Tok → TokenFault → Type 0
 AllowedAt before [] kind = Unit {0}
-AllowedAt before (t ∷ ts) kind = Allowed (number t.head) kind ⊎ BeginsVector before t
+AllowedAt before (t ∷ ts) kind = Allowed (number t.kind) kind ⊎ BeginsVector before t
 
 -- what reading gives: the tokens that are left are the last ones, or the fault is one that the next token allows
 abbrev pub Fits : {A : Type 0} → List Tok → List Tok → Result (A × List Tok) Fault → Type 0
@@ -68,7 +68,7 @@ pub record TellsBehind {A : Type 0} (classes : List ℕ) (f : Reader Tok A) : Ty
   pub each : (before ts : List Tok) → last_is (among tokens classes) before ≡ true → Fits before ts (f ts)
 
 -- at the first token
-here : (before : List Tok) (t : Tok) (ts : List Tok) (kind : TokenFault) → Allowed (number t.head) kind
+here : (before : List Tok) (t : Tok) (ts : List Tok) (kind : TokenFault) → Allowed (number t.kind) kind
     → (front : List Tok) × (rest : List Tok) × (t ∷ ts ≡ front ++ rest) × (length rest ≡ length (t ∷ ts)) × AllowedAt (before ++ front) rest kind
 here before t ts kind k = ([], t ∷ ts, refl, refl, inl k)
 
@@ -77,8 +77,8 @@ is_false true never = absurd (never refl)
 is_false false never = refl
 
 -- no token of these classes is refused everywhere
-pub never_among : (bs : List ℕ) → disjoint bs REFUSED_EVERYWHERE ≡ true → (t : Tok) → among tokens bs t ≡ true → contains REFUSED_EVERYWHERE (number t.head) ≡ false
-never_among bs d t p = is_false (contains REFUSED_EVERYWHERE (number t.head)) (λ q. apart_from bs REFUSED_EVERYWHERE d (number t.head) p q)
+pub never_among : (bs : List ℕ) → disjoint bs REFUSED_EVERYWHERE ≡ true → (t : Tok) → among tokens bs t ≡ true → contains REFUSED_EVERYWHERE (number t.kind) ≡ false
+never_among bs d t p = is_false (contains REFUSED_EVERYWHERE (number t.kind)) (λ q. apart_from bs REFUSED_EVERYWHERE d (number t.kind) p q)
 
 -- ---- ways of putting readers together
 
@@ -137,7 +137,7 @@ maybe begins l = alt begins (seq l (λ a. nothing (Some a))) (nothing None)
 
 abbrev pub AllowedBy : {A : Type 0} → Tok → Result A TokenFault → Type 0
 AllowedBy t (Ok a) = Unit {0}
-AllowedBy t (Err kind) = Allowed (number t.head) kind
+AllowedBy t (Err kind) = Allowed (number t.kind) kind
 
 pub single : {A : Type 0} (meaning : Tok → Result A TokenFault) → ((t : Tok) → AllowedBy t (meaning t)) → Tells (token_at meaning)
 single {A} meaning fits = record { each = by }
@@ -154,33 +154,33 @@ single {A} meaning fits = record { each = by }
 abbrev pub Refuses : (ℕ → TokenFault) → Type 0
 Refuses refusal = (n : ℕ) → Allowed n (refusal n)
 
-test : {A : Type 0} (t : Tok) (b : Bool) (a : A) (kind : TokenFault) → Allowed (number t.head) kind → AllowedBy t (cond b (Ok a) (Err kind))
+test : {A : Type 0} (t : Tok) (b : Bool) (a : A) (kind : TokenFault) → Allowed (number t.kind) kind → AllowedBy t (cond b (Ok a) (Err kind))
 test t true a kind k = tt
 test t false a kind k = k
 
 pub class : (refusal : ℕ → TokenFault) → Refuses refusal → (wanted : ℕ) → Tells (token_at (is_class tokens refusal wanted))
 unfolding is_class
-class refusal r wanted = single (is_class tokens refusal wanted) (λ t. test t (nat_eq (number t.head) wanted) tt (refusal (number t.head)) (r (number t.head)))
+class refusal r wanted = single (is_class tokens refusal wanted) (λ t. test t (nat_eq (number t.kind) wanted) tt (refusal (number t.kind)) (r (number t.kind)))
 
 pub one : {A : Type 0} (refusal : ℕ → TokenFault) → Refuses refusal → (wanted : List ℕ) (value : Tok → A) → Tells (token_at (is_among tokens refusal wanted value))
 unfolding is_among
-one refusal r wanted value = single (is_among tokens refusal wanted value) (λ t. test t (among tokens wanted t) (value t) (refusal (number t.head)) (r (number t.head)))
+one refusal r wanted value = single (is_among tokens refusal wanted value) (λ t. test t (among tokens wanted t) (value t) (refusal (number t.kind)) (r (number t.kind)))
 
 pub exact : {A : Type 0} (refusal : ℕ → TokenFault) → Refuses refusal → (wanted : List ℕ) (passes : Tok → Bool) (value : Tok → A) → Tells (token_at (is_exact tokens refusal wanted passes value))
 unfolding is_exact
-exact refusal r wanted passes value = single (is_exact tokens refusal wanted passes value) (λ t. test t (among tokens wanted t && passes t) (value t) (refusal (number t.head)) (r (number t.head)))
+exact refusal r wanted passes value = single (is_exact tokens refusal wanted passes value) (λ t. test t (among tokens wanted t && passes t) (value t) (refusal (number t.kind)) (r (number t.kind)))
 
 pub value_allowed : {A : Type 0} (refusal : ℕ → TokenFault) → Refuses refusal → (wanted : List ℕ) → disjoint wanted REFUSED_EVERYWHERE ≡ true → (value : Tok → Option A) (t : Tok) → AllowedBy t (is_valued tokens refusal wanted value t)
 unfolding is_valued
 value_allowed {A} refusal r wanted d value t = by_test (among tokens wanted t) refl
   where
-    by_value : (o : Option A) → contains REFUSED_EVERYWHERE (number t.head) ≡ false → AllowedBy t (in_range o)
+    by_value : (o : Option A) → contains REFUSED_EVERYWHERE (number t.kind) ≡ false → AllowedBy t (in_range o)
     by_value None n = n
     by_value (Some a) n = tt
 
-    by_test : (b : Bool) → among tokens wanted t ≡ b → AllowedBy t (cond b (in_range (value t)) (Err (refusal (number t.head))))
+    by_test : (b : Bool) → among tokens wanted t ≡ b → AllowedBy t (cond b (in_range (value t)) (Err (refusal (number t.kind))))
     by_test true p = by_value (value t) (never_among wanted d t p)
-    by_test false p = r (number t.head)
+    by_test false p = r (number t.kind)
 
 pub valued : {A : Type 0} (refusal : ℕ → TokenFault) → Refuses refusal → (wanted : List ℕ) → disjoint wanted REFUSED_EVERYWHERE ≡ true → (value : Tok → Option A) → Tells (token_at (is_valued tokens refusal wanted value))
 valued refusal r wanted d value = single (is_valued tokens refusal wanted value) (value_allowed refusal r wanted d value)
@@ -293,7 +293,7 @@ module _ {A : Type 0} (begins : Tok → Bool) {one_at : Reader Tok A} (tells : T
 
 -- ---- tokens one by one
 
-pub run : {S : Type 0} (step : S → Tok → Step S) → ((s : S) (t : Tok) → step s t ≡ bad → contains REFUSED_EVERYWHERE (number t.head) ≡ false) → (s : S) → Tells (run_at step s)
+pub run : {S : Type 0} (step : S → Tok → Step S) → ((s : S) (t : Tok) → step s t ≡ bad → contains REFUSED_EVERYWHERE (number t.kind) ≡ false) → (s : S) → Tells (run_at step s)
 run {S} step fits s = record { each = λ before ts. by s before ts }
   where
     read : Step S → Tok → List Tok → Result (Unit {0} × List Tok) Fault
@@ -308,17 +308,17 @@ run {S} step fits s = record { each = λ before ts. by s before ts }
     by s before [] = ([], [], refl, refl, tt)
     by s before (t ∷ ts) = by_step s before t ts (step s t) refl (λ next. by next (before ++ t ∷ []) ts)
 
-pub closing : {B : Type 0} (brackets : Brackets Tok B) → ((t : Tok) (b : B) → brackets.move t ≡ closes b → contains REFUSED_EVERYWHERE (number t.head) ≡ false) → (open_ones : List B) → Tells (balanced.closing_at brackets open_ones)
+pub closing : {B : Type 0} (brackets : Brackets Tok B) → ((t : Tok) (b : B) → brackets.move t ≡ closes b → contains REFUSED_EVERYWHERE (number t.kind) ≡ false) → (open_ones : List B) → Tells (balanced.closing_at brackets open_ones)
 closing {B} brackets fits open_ones = record { each = λ before ts. by open_ones before ts }
   where
     read : Option (List B) → Tok → List Tok → Result (Unit {0} × List Tok) Fault
     read o t ts = elim o as (λ x. Result (Unit {0} × List Tok) Fault) [ None ↦ fault_at Syntax (t ∷ ts) | Some stack ↦ balanced.closing_at brackets stack ts ]
 
-    by_stack : (before : List Tok) (t : Tok) (ts : List Tok) (o : Option (List B)) → (o ≡ None → contains REFUSED_EVERYWHERE (number t.head) ≡ false) → ((stack : List B) → Fits (before ++ t ∷ []) ts (balanced.closing_at brackets stack ts)) → Fits before (t ∷ ts) (read o t ts)
+    by_stack : (before : List Tok) (t : Tok) (ts : List Tok) (o : Option (List B)) → (o ≡ None → contains REFUSED_EVERYWHERE (number t.kind) ≡ false) → ((stack : List B) → Fits (before ++ t ∷ []) ts (balanced.closing_at brackets stack ts)) → Fits before (t ∷ ts) (read o t ts)
     by_stack before t ts None n again = here before t ts Syntax (n refl)
     by_stack before t ts (Some stack) n again = shift before (t ∷ []) (t ∷ ts) ts (balanced.closing_at brackets stack ts) refl (again stack)
 
-    none_moved : (t : Tok) (b : B) (bs : List B) (m : Move B) → brackets.move t ≡ m → moved brackets m b bs ≡ None → contains REFUSED_EVERYWHERE (number t.head) ≡ false
+    none_moved : (t : Tok) (b : B) (bs : List B) (m : Move B) → brackets.move t ≡ m → moved brackets m b bs ≡ None → contains REFUSED_EVERYWHERE (number t.kind) ≡ false
     none_moved t b bs (opens c) e n = absurd (cc n)
     none_moved t b bs (closes c) e n = fits t c e
     none_moved t b bs stays e n = absurd (cc n)
@@ -363,10 +363,10 @@ pub type_refusal_refuses : Refuses type_refusal
 type_refusal_refuses n = left_out REFUSED_TYPES refl n (refusal n) (refusal_refuses n)
 
 pub memory_refusal_refuses : Refuses memory_refusal
-memory_refusal_refuses n = by_test (nat_eq n (number heads.RegisterInteger)) refl
+memory_refusal_refuses n = by_test (nat_eq n (number kinds.RegisterInteger)) refl
   where
-    by_test : (b : Bool) → nat_eq n (number heads.RegisterInteger) ≡ b → Allowed n (cond b Profile (type_refusal n))
-    by_test true e = may_of (number heads.RegisterInteger) refl n e
+    by_test : (b : Bool) → nat_eq n (number kinds.RegisterInteger) ≡ b → Allowed n (cond b Profile (type_refusal n))
+    by_test true e = may_of (number kinds.RegisterInteger) refl n e
     by_test false e = type_refusal_refuses n
 
 pub name_refusal_refuses : Refuses name_refusal
@@ -375,27 +375,27 @@ name_refusal_refuses n = left_out NUMBERED refl n (refusal n) (refusal_refuses n
 -- ---- behind `<`
 
 -- a token of this class, and what stands directly behind it
-pub behind_class : {B : Type 0} {h : Unit {0} → Reader Tok B} (wanted : Head) → ((u : Unit {0}) → TellsBehind (number wanted ∷ []) (h u)) → Tells (the_at wanted >>= h)
+pub behind_class : {B : Type 0} {h : Unit {0} → Reader Tok B} (wanted : TokenKind) → ((u : Unit {0}) → TellsBehind (number wanted ∷ []) (h u)) → Tells (the_at wanted >>= h)
 unfolding is_class
 behind_class {B} {h} wanted m = record { each = by }
   where
-    by_test : (before : List Tok) (t : Tok) (ts : List Tok) (b : Bool) → nat_eq (number t.head) (number wanted) ≡ b
-        → Fits before (t ∷ ts) (follow (token_means t ts (cond b (Ok tt) (Err (refusal (number t.head))))) h)
-    by_test before t ts true e = shift before (t ∷ []) (t ∷ ts) ts (h tt ts) refl ((m tt).each (before ++ t ∷ []) ts (last_of (among tokens (number wanted ∷ [])) before t (alone (number t.head) (number wanted) e)))
-    by_test before t ts false e = here before t ts (refusal (number t.head)) (refusal_refuses (number t.head))
+    by_test : (before : List Tok) (t : Tok) (ts : List Tok) (b : Bool) → nat_eq (number t.kind) (number wanted) ≡ b
+        → Fits before (t ∷ ts) (follow (token_means t ts (cond b (Ok tt) (Err (refusal (number t.kind))))) h)
+    by_test before t ts true e = shift before (t ∷ []) (t ∷ ts) ts (h tt ts) refl ((m tt).each (before ++ t ∷ []) ts (last_of (among tokens (number wanted ∷ [])) before t (alone (number t.kind) (number wanted) e)))
+    by_test before t ts false e = here before t ts (refusal (number t.kind)) (refusal_refuses (number t.kind))
 
     by : (before ts : List Tok) → Fits before ts ((the_at wanted >>= h) ts)
     by before [] = ([], [], refl, refl, tt)
-    by before (t ∷ ts) = by_test before t ts (nat_eq (number t.head) (number wanted)) refl
+    by before (t ∷ ts) = by_test before t ts (nat_eq (number t.kind) (number wanted)) refl
 
 pub behind_one : {A B : Type 0} {h : A → Reader Tok B} (classes : List ℕ) (value : Tok → A) → ((a : A) → TellsBehind classes (h a)) → Tells (one_of_at classes value >>= h)
 unfolding is_among
 behind_one {A} {B} {h} classes value m = record { each = by }
   where
     by_test : (before : List Tok) (t : Tok) (ts : List Tok) (b : Bool) → among tokens classes t ≡ b
-        → Fits before (t ∷ ts) (follow (token_means t ts (cond b (Ok (value t)) (Err (refusal (number t.head))))) h)
+        → Fits before (t ∷ ts) (follow (token_means t ts (cond b (Ok (value t)) (Err (refusal (number t.kind))))) h)
     by_test before t ts true e = shift before (t ∷ []) (t ∷ ts) ts (h (value t) ts) refl ((m (value t)).each (before ++ t ∷ []) ts (last_of (among tokens classes) before t e))
-    by_test before t ts false e = here before t ts (refusal (number t.head)) (refusal_refuses (number t.head))
+    by_test before t ts false e = here before t ts (refusal (number t.kind)) (refusal_refuses (number t.kind))
 
     by : (before ts : List Tok) → Fits before ts ((one_of_at classes value >>= h) ts)
     by before [] = ([], [], refl, refl, tt)
@@ -408,20 +408,20 @@ pub brace_behind_told : TellsBehind OPEN_ANGLE brace_behind_angle_at
 unfolding is_class
 brace_behind_told = record { each = by }
   where
-    by_number : (before : List Tok) (t : Tok) (ts : List Tok) (b : Bool) → nat_eq (number t.head) (number heads.Number) ≡ b → last_is (among tokens OPEN_ANGLE) before ≡ true
-        → Fits {A = Unit {0}} before (t ∷ ts) (fault_at (cond b Profile (refusal (number t.head))) (t ∷ ts))
+    by_number : (before : List Tok) (t : Tok) (ts : List Tok) (b : Bool) → nat_eq (number t.kind) (number kinds.Number) ≡ b → last_is (among tokens OPEN_ANGLE) before ≡ true
+        → Fits {A = Unit {0}} before (t ∷ ts) (fault_at (cond b Profile (refusal (number t.kind))) (t ∷ ts))
     by_number before t ts true e angle = ([], t ∷ ts, refl, refl, inr (e, subst (λ (z : List Tok). last_is (among tokens OPEN_ANGLE) z ≡ true) (sym (append-nil before)) angle))
-    by_number before t ts false e angle = here before t ts (refusal (number t.head)) (refusal_refuses (number t.head))
+    by_number before t ts false e angle = here before t ts (refusal (number t.kind)) (refusal_refuses (number t.kind))
 
-    by_test : (before : List Tok) (t : Tok) (ts : List Tok) (b : Bool) → last_is (among tokens OPEN_ANGLE) before ≡ true → Fits before (t ∷ ts) (token_means t ts (taken b (angle_refusal (number t.head))))
+    by_test : (before : List Tok) (t : Tok) (ts : List Tok) (b : Bool) → last_is (among tokens OPEN_ANGLE) before ≡ true → Fits before (t ∷ ts) (token_means t ts (taken b (angle_refusal (number t.kind))))
     by_test before t ts true angle = (t ∷ [], refl)
-    by_test before t ts false angle = by_number before t ts (nat_eq (number t.head) (number heads.Number)) refl angle
+    by_test before t ts false angle = by_number before t ts (nat_eq (number t.kind) (number kinds.Number)) refl angle
 
     by : (before ts : List Tok) → last_is (among tokens OPEN_ANGLE) before ≡ true → Fits before ts (brace_behind_angle_at ts)
     by before [] angle = ([], [], refl, refl, tt)
-    by before (t ∷ ts) angle = by_test before t ts (nat_eq (number t.head) (number heads.OpenBrace)) angle
+    by before (t ∷ ts) angle = by_test before t ts (nat_eq (number t.kind) (number kinds.OpenBrace)) angle
 
-pub the_told : (wanted : Head) → Tells (the_at wanted)
+pub the_told : (wanted : TokenKind) → Tells (the_at wanted)
 the_told wanted = class refusal refusal_refuses (number wanted)
 
 pub one_told : {A : Type 0} (classes : List ℕ) (value : Tok → A) → Tells (one_of_at classes value)
@@ -429,40 +429,40 @@ one_told classes value = one refusal refusal_refuses classes value
 
 pub is_alignment_allowed : (t : Tok) → AllowedBy t (is_alignment t)
 unfolding is_alignment alignment_of
-is_alignment_allowed t = by_class (nat_eq (number t.head) (number heads.Number)) refl
+is_alignment_allowed t = by_class (nat_eq (number t.kind) (number kinds.Number)) refl
   where
-    by_number : (b : Bool) → nat_eq (number t.head) (number heads.Number) ≡ true → AllowedBy t (cond b (Ok (decimal t.text)) (Err Number))
+    by_number : (b : Bool) → nat_eq (number t.kind) (number kinds.Number) ≡ true → AllowedBy t (cond b (Ok (decimal t.text)) (Err Number))
     by_number true e = tt
-    by_number false e = never_class (number heads.Number) refl (number t.head) e
+    by_number false e = never_class (number kinds.Number) refl (number t.kind) e
 
-    by_class : (b : Bool) → nat_eq (number t.head) (number heads.Number) ≡ b → AllowedBy t (cond b (cond (contains ALIGNMENTS (decimal t.text) && not (begins_by 45 t.text)) (Ok (decimal t.text)) (Err Number)) (Err (refusal (number t.head))))
+    by_class : (b : Bool) → nat_eq (number t.kind) (number kinds.Number) ≡ b → AllowedBy t (cond b (cond (contains ALIGNMENTS (decimal t.text) && not (begins_by 45 t.text)) (Ok (decimal t.text)) (Err Number)) (Err (refusal (number t.kind))))
     by_class true e = by_number (contains ALIGNMENTS (decimal t.text) && not (begins_by 45 t.text)) e
-    by_class false e = refusal_refuses (number t.head)
+    by_class false e = refusal_refuses (number t.kind)
 
 -- ---- brackets
 
-closes_never : (h : Head) (b : Bracket) → move_of h ≡ closes b → contains REFUSED_EVERYWHERE (number h) ≡ false
-closes_never heads.ReservedGlobal b e = absurd (cc e)
-closes_never heads.RefusedMark b e = absurd (cc e)
-closes_never heads.RefusedInteger b e = absurd (cc e)
-closes_never heads.RefusedAttribute b e = absurd (cc e)
-closes_never heads.RefusedWord b e = absurd (cc e)
+closes_never : (h : TokenKind) (b : Bracket) → move_of h ≡ closes b → contains REFUSED_EVERYWHERE (number h) ≡ false
+closes_never kinds.ReservedGlobal b e = absurd (cc e)
+closes_never kinds.RefusedMark b e = absurd (cc e)
+closes_never kinds.RefusedInteger b e = absurd (cc e)
+closes_never kinds.RefusedAttribute b e = absurd (cc e)
+closes_never kinds.RefusedWord b e = absurd (cc e)
 closes_never h b e = refl
 
 pub group_told : (b : Bracket) → Tells (group_at b)
 unfolding group_at
-group_told b = seq (the_told (opening b)) (λ _. closing brackets (λ t c e. closes_never t.head c e) (b ∷ []))
+group_told b = seq (the_told (opening b)) (λ _. closing brackets (λ t c e. closes_never t.kind c e) (b ∷ []))
 
-pub line_step_fits : (bs : List Bracket) (t : Tok) → line_step bs t ≡ bad → contains REFUSED_EVERYWHERE (number t.head) ≡ false
-line_step_fits bs t e = by_move (move_of t.head) refl e
+pub line_step_fits : (bs : List Bracket) (t : Tok) → line_step bs t ≡ bad → contains REFUSED_EVERYWHERE (number t.kind) ≡ false
+line_step_fits bs t e = by_move (move_of t.kind) refl e
   where
     ended_test : (b : Bool) (cs : List Bracket) → cond b last (onward cs) ≡ bad → ⊥
     ended_test true cs h = cc h
     ended_test false cs h = cc h
 
-    by_move : (m : Move Bracket) → move_of t.head ≡ m → ended_by t.ends_line (open_behind m bs) ≡ bad → contains REFUSED_EVERYWHERE (number t.head) ≡ false
+    by_move : (m : Move Bracket) → move_of t.kind ≡ m → ended_by t.ends_line (open_behind m bs) ≡ bad → contains REFUSED_EVERYWHERE (number t.kind) ≡ false
     by_move (opens b) d h = absurd (ended_test (t.ends_line && none_open (b ∷ bs)) (b ∷ bs) h)
-    by_move (closes b) d h = closes_never t.head b d
+    by_move (closes b) d h = closes_never t.kind b d
     by_move stays d h = absurd (ended_test (t.ends_line && none_open bs) bs h)
 
 pub run_line_told : (bs : List Bracket) → Tells (run_at line_step bs)

@@ -1,7 +1,7 @@
 -- The first fault of the readers of `alloca` and `getelementptr` is of a kind that its token allows.
 use Rattle.ir_parse.proofs.Told.{Tells, takes_of, first_true, seq, nothing, alt, single, value_allowed, chain, the_told, refusal_refuses, AllowedBy, never_among}
 use Rattle.std.specs.Prelude.{ℕ, Bool, true, false, Err}
-use Rattle.ir_lex.specs.declared.head.Head.TheVariants as heads
+use Rattle.ir_lex.specs.declared.token_kind.TokenKind.TheVariants as kinds
 use Rattle.ir_lex.specs.Tok.{Tok}
 use Rattle.ir_tree.specs.declared.operand.Reg.TheVariants.{Ptr}
 use Rattle.ir_read.specs.Alphabet.{among}
@@ -46,7 +46,7 @@ one_slot_told = seq aligned_told (λ a. nothing _)
 pub slots_behind_told : (fits : (ℕ → Bool)) → Tells (slots_behind_at fits)
 unfolding slots_behind_at
 slots_behind_told fits =
-    alt (among tokens COMMA) (seq (the_told heads.Comma) (λ _. alt (among tokens ALIGNED) one_slot_told (many_slots_told fits))) (nothing _)
+    alt (among tokens COMMA) (seq (the_told kinds.Comma) (λ _. alt (among tokens ALIGNED) one_slot_told (many_slots_told fits))) (nothing _)
 
 pub reserving_told : Tells reserving_at
 unfolding reserving_at
@@ -66,7 +66,7 @@ behind_comma_told false = alt (among tokens META) attaching_told indexing_told
 
 pub further_told : (s : Bool) → Tells (further_at s)
 unfolding further_at
-further_told s = seq (the_told heads.Comma) (λ _. behind_comma_told s)
+further_told s = seq (the_told kinds.Comma) (λ _. behind_comma_told s)
 
 pub indices_told : Tells indices_at
 unfolding indices_at
@@ -77,7 +77,7 @@ stepped_told inbounds typed base = seq indices_told (λ is. nothing _)
 
 pub stepping_by_told : (inbounds : Bool) → (typed : Typed) → Tells (stepping_by_at inbounds typed)
 stepping_by_told inbounds typed =
-    seq (the_told heads.Comma) (λ _. seq pointer_told (λ _. seq (operand_told Ptr) (λ base. stepped_told inbounds typed base)))
+    seq (the_told kinds.Comma) (λ _. seq pointer_told (λ _. seq (operand_told Ptr) (λ base. stepped_told inbounds typed base)))
 
 pub addressing_told : Tells addressing_at
 unfolding addressing_at

@@ -1,7 +1,7 @@
 -- The first fault of the readers of attributes is of a kind that its token allows.
 use Rattle.ir_parse.proofs.Told.{Tells, takes_of, seq, nothing, alt, star, maybe, single, valued, any, the_told, one_told, refusal_refuses, group_told, is_alignment_allowed}
 use Rattle.std.specs.Prelude.{ℕ, List}
-use Rattle.ir_lex.specs.declared.head.Head.TheVariants as heads
+use Rattle.ir_lex.specs.declared.token_kind.TokenKind.TheVariants as kinds
 use Rattle.ir_read.specs.Alphabet.{among}
 use Rattle.ir_heads.specs.Attributes.{WORDS, CALL_WORDS, GROUP_WORDS, GROUP, word_kept}
 use Rattle.ir_read.specs.Classes.{tokens, refusal}
@@ -22,7 +22,7 @@ aligned_told = alt (among tokens NUMBER) (seq (single is_alignment is_alignment_
 pub parameter_attribute_told : Tells parameter_attribute_at
 unfolding parameter_attribute_at
 parameter_attribute_told =
-    alt (among tokens PARAMETER_WORD) (the_told heads.ParameterWord) (alt (among tokens PARAMETER_GROUP) (seq (the_told heads.ParameterGroup) (λ _. group_told Paren)) (seq (the_told heads.Align) (λ _. aligned_told)))
+    alt (among tokens PARAMETER_WORD) (the_told kinds.ParameterWord) (alt (among tokens PARAMETER_GROUP) (seq (the_told kinds.ParameterGroup) (λ _. group_told Paren)) (seq (the_told kinds.Align) (λ _. aligned_told)))
 
 pub parameter_attributes_told : Tells parameter_attributes_at
 unfolding parameter_attributes_at
@@ -31,7 +31,7 @@ parameter_attributes_told = seq (star PARAMETER refl parameter_attribute_told) (
 pub word_tail_told : Tells word_tail_at
 unfolding word_tail_at
 word_tail_told =
-    alt (among tokens PAREN) (group_told Paren) (alt (among tokens EQUALS) (seq (the_told heads.Equals) (λ _. the_told heads.Number)) (nothing _))
+    alt (among tokens PAREN) (group_told Paren) (alt (among tokens EQUALS) (seq (the_told kinds.Equals) (λ _. the_told kinds.Number)) (nothing _))
 
 pub word_attribute_told : (words : List ℕ) → Tells (word_attribute_at words)
 unfolding word_attribute_at
@@ -39,11 +39,11 @@ word_attribute_told words = seq (one_told words word_kept) (λ kept. seq word_ta
 
 pub string_value_told : Tells string_value_at
 unfolding string_value_at
-string_value_told = seq (the_told heads.Equals) (λ _. the_told heads.Str)
+string_value_told = seq (the_told kinds.Equals) (λ _. the_told kinds.Str)
 
 pub string_attribute_told : Tells string_attribute_at
 unfolding string_attribute_at
-string_attribute_told = seq (the_told heads.Str) (λ _. seq (maybe (among tokens EQUALS) string_value_told) (λ _. nothing _))
+string_attribute_told = seq (the_told kinds.Str) (λ _. seq (maybe (among tokens EQUALS) string_value_told) (λ _. nothing _))
 
 pub function_attribute_told : (words : List ℕ) → Tells (function_attribute_at words)
 unfolding function_attribute_at
@@ -67,7 +67,7 @@ call_attributes_told = seq (star CALL refl call_attribute_told) (λ _. nothing _
 pub head_alignment_told : Tells head_alignment_at
 unfolding head_alignment_at
 head_alignment_told =
-    seq (the_told heads.Align) (λ _. seq (alt (among tokens NUMBER) (seq (single is_alignment is_alignment_allowed) (λ _. nothing _)) word_tail_told) (λ _. nothing _))
+    seq (the_told kinds.Align) (λ _. seq (alt (among tokens NUMBER) (seq (single is_alignment is_alignment_allowed) (λ _. nothing _)) word_tail_told) (λ _. nothing _))
 
 pub head_attribute_told : Tells head_attribute_at
 unfolding head_attribute_at
@@ -92,4 +92,4 @@ grouped_told = seq (any (among tokens GROUPED) (function_attribute_told GROUP_WO
 pub attribute_group_told : Tells attribute_group_at
 unfolding attribute_group_at
 attribute_group_told =
-    seq (the_told heads.Attributes) (λ _. seq group_name_told (λ name. seq (the_told heads.Equals) (λ _. seq (the_told heads.OpenBrace) (λ _. seq grouped_told (λ kept. seq (the_told heads.CloseBrace) (λ _. nothing _))))))
+    seq (the_told kinds.Attributes) (λ _. seq group_name_told (λ name. seq (the_told kinds.Equals) (λ _. seq (the_told kinds.OpenBrace) (λ _. seq grouped_told (λ kept. seq (the_told kinds.CloseBrace) (λ _. nothing _))))))

@@ -1,14 +1,14 @@
 -- The first fault of the readers of blocks and definitions is of a kind that its token allows.
 use Rattle.ir_parse.proofs.Told.{Tells, seq, nothing, alt, barred, many, valued, the_told, refusal_refuses}
 use Rattle.std.specs.Prelude.{ℕ, Option, Some, None}
-use Rattle.ir_lex.specs.declared.head.Head.TheVariants as heads
+use Rattle.ir_lex.specs.declared.token_kind.TokenKind.TheVariants as kinds
 use Rattle.ir_lex.specs.Tok.{Tok}
 use Rattle.ir_read.specs.Alphabet.{among}
 use Rattle.ir_parse.proofs.ToldAttributes.{definition_attributes_told}
 use Rattle.ir_read.specs.Classes.{tokens, refusal}
 use Rattle.ir_heads.specs.declared.function_heads.Role.TheVariants as roles
 use Rattle.ir_read.specs.declared.raw.Block.{Block}
-use Rattle.ir_read.specs.declared.raw.Head.{Head}
+use Rattle.ir_read.specs.declared.raw.FunctionHeader.{FunctionHeader}
 use Rattle.ir_parse.proofs.ToldFunctionHeads.{head_told}
 use Rattle.ir_read.specs.Operands.{named}
 use Rattle.ir_parse.proofs.ToldTerminators.{terminator_told}
@@ -48,11 +48,11 @@ pub blocks_told : (further : ℕ) → (instructions : ℕ) → Tells (blocks_at 
 unfolding blocks_at
 blocks_told further instructions = seq (block_told instructions) (λ first. blocks_behind_told further first.1 first.0)
 
-pub defined_told : (h : Head) → Tells (defined_at h)
+pub defined_told : (h : FunctionHeader) → Tells (defined_at h)
 defined_told h =
-    seq (the_told heads.OpenBrace) (λ _. seq (blocks_told FURTHER_BLOCKS INSTRUCTIONS) (λ bs. seq (the_told heads.CloseBrace) (λ _. nothing _)))
+    seq (the_told kinds.OpenBrace) (λ _. seq (blocks_told FURTHER_BLOCKS INSTRUCTIONS) (λ bs. seq (the_told kinds.CloseBrace) (λ _. nothing _)))
 
 pub definition_told : (room : ℕ) → Tells (definition_at room)
 unfolding definition_at
 definition_told room =
-    seq (the_told heads.Define) (λ _. seq (head_told roles.Definition room) (λ h. seq definition_attributes_told (λ k. defined_told (with_kept h k))))
+    seq (the_told kinds.Define) (λ _. seq (head_told roles.Definition room) (λ h. seq definition_attributes_told (λ k. defined_told (with_kept h k))))

@@ -1,8 +1,8 @@
 -- The first fault of the readers of calls is of a kind that its token allows.
 use Rattle.ir_parse.proofs.Told.{Tells, never_class, seq, nothing, alt, star, maybe, Refuses, one, exact, valued, the_told, refusal_refuses, Allowed, type_refusal_refuses}
 use Rattle.std.specs.Prelude.{Bool, true, false, Option, Some, None, List, [], ◌∷◌}
-use Rattle.ir_lex.specs.declared.head.Head.TheVariants as heads
-use Rattle.ir_lex.specs.Heads.{number}
+use Rattle.ir_lex.specs.declared.token_kind.TokenKind.TheVariants as kinds
+use Rattle.ir_lex.specs.TokenKinds.{number}
 use Rattle.ir_lex.specs.Tok.{Tok}
 use Rattle.ir_tree.specs.declared.operand.Reg.{Reg}
 use Rattle.ir_tree.specs.declared.operand.Reg.TheVariants.{Ptr}
@@ -25,7 +25,7 @@ use Rattle.ir_read.specs.declared.fault.TokenFault.TheVariants.{Syntax}
 
 pub convention_told : Tells convention_at
 unfolding convention_at
-convention_told = alt (among tokens CONVENTION) (the_told heads.CallingConvention) parameter_attribute_told
+convention_told = alt (among tokens CONVENTION) (the_told kinds.CallingConvention) parameter_attribute_told
 
 pub conventions_told : Tells conventions_at
 unfolding conventions_at
@@ -36,7 +36,7 @@ written_type_told = one type_refusal type_refusal_refuses REG itself
 
 pub further_type_told : Tells further_type_at
 unfolding further_type_at
-further_type_told = seq (the_told heads.Comma) (λ _. written_type_told)
+further_type_told = seq (the_told kinds.Comma) (λ _. written_type_told)
 
 pub types_behind_told : (first : Tok) → Tells (types_behind_at first)
 unfolding types_behind_at
@@ -49,11 +49,11 @@ some_types_told = seq written_type_told (λ first. types_behind_told first)
 pub listed_types_told : Tells listed_types_at
 unfolding listed_types_at
 listed_types_told =
-    alt (among tokens REG) (seq some_types_told (λ ws. seq (the_told heads.CloseParen) (λ _. nothing _))) (seq end_of_none_told (λ _. nothing _))
+    alt (among tokens REG) (seq some_types_told (λ ws. seq (the_told kinds.CloseParen) (λ _. nothing _))) (seq end_of_none_told (λ _. nothing _))
 
 pub types_told : Tells types_at
 unfolding types_at
-types_told = seq (the_told heads.OpenParen) (λ _. listed_types_told)
+types_told = seq (the_told kinds.OpenParen) (λ _. listed_types_told)
 
 pub argument_behind_told : (r : Reg) → Tells (argument_behind_at r)
 unfolding argument_behind_at
@@ -65,7 +65,7 @@ argument_told = seq reg_told (λ r. argument_behind_told r)
 
 pub further_argument_told : Tells further_argument_at
 unfolding further_argument_at
-further_argument_told = seq (the_told heads.Comma) (λ _. argument_told)
+further_argument_told = seq (the_told kinds.Comma) (λ _. argument_told)
 
 pub arguments_behind_told : (first : Argument) → Tells (arguments_behind_at first)
 unfolding arguments_behind_at
@@ -78,7 +78,7 @@ some_arguments_told = seq argument_told (λ first. arguments_behind_told first)
 pub any_arguments_told : Tells any_arguments_at
 unfolding any_arguments_at
 any_arguments_told =
-    alt (among tokens REG) (seq some_arguments_told (λ as'. seq (the_told heads.CloseParen) (λ _. nothing _))) (seq end_of_none_told (λ _. nothing _))
+    alt (among tokens REG) (seq some_arguments_told (λ as'. seq (the_told kinds.CloseParen) (λ _. nothing _))) (seq end_of_none_told (λ _. nothing _))
 
 pub type_again_told : (w : Tok) → Tells (type_again_at w)
 type_again_told w = exact type_refusal type_refusal_refuses REG (is_type w) reg_of
@@ -89,7 +89,7 @@ argument_of_told w = seq (type_again_told w) (λ r. argument_behind_told r)
 
 pub further_of_told : (w : Tok) → Tells (further_of_at w)
 unfolding further_of_at
-further_of_told w = seq (the_told heads.Comma) (λ _. argument_of_told w)
+further_of_told w = seq (the_told kinds.Comma) (λ _. argument_of_told w)
 
 pub each_further_told : (x0 : List Tok) → Tells (each_further_at x0)
 each_further_told [] = nothing _
@@ -104,8 +104,8 @@ unfolding some_of_at
 some_of_told w ws = seq (argument_of_told w) (λ first. each_behind_told ws first)
 
 pub arguments_of_told : (x0 : List Tok) → Tells (arguments_of_at x0)
-arguments_of_told [] = seq (the_told heads.CloseParen) (λ _. nothing _)
-arguments_of_told (w ∷ ws) = seq (some_of_told w ws) (λ as'. seq (the_told heads.CloseParen) (λ _. nothing _))
+arguments_of_told [] = seq (the_told kinds.CloseParen) (λ _. nothing _)
+arguments_of_told (w ∷ ws) = seq (some_of_told w ws) (λ as'. seq (the_told kinds.CloseParen) (λ _. nothing _))
 
 pub arguments_told : (x0 : Option (List Tok)) → Tells (arguments_at x0)
 arguments_told None = any_arguments_told
@@ -117,13 +117,13 @@ called_value_told = seq (operand_told Ptr) (λ v. nothing _)
 
 pub marker_told : Tells marker_at
 unfolding marker_at
-marker_told = seq (the_told heads.LifetimeMarker) (λ _. nothing _)
+marker_told = seq (the_told kinds.LifetimeMarker) (λ _. nothing _)
 
 marker_refusal_refuses : Refuses marker_refusal
-marker_refusal_refuses n = by_test (nat_eq n (number heads.LifetimeMarker)) refl
+marker_refusal_refuses n = by_test (nat_eq n (number kinds.LifetimeMarker)) refl
   where
-    by_test : (b : Bool) → nat_eq n (number heads.LifetimeMarker) ≡ b → Allowed n (cond b Syntax (refusal n))
-    by_test true e = never_class (number heads.LifetimeMarker) refl n e
+    by_test : (b : Bool) → nat_eq n (number kinds.LifetimeMarker) ≡ b → Allowed n (cond b Syntax (refusal n))
+    by_test true e = never_class (number kinds.LifetimeMarker) refl n e
     by_test false e = refusal_refuses n
 
 pub unmarked_told : Tells unmarked_at
@@ -145,7 +145,7 @@ pub called_told : (r : Option Reg) → (f : Option Operand) → (as' : List Argu
 called_told r f as' = seq call_attributes_told (λ _. seq attachments_told (λ _. nothing _))
 
 pub calling_with_told : (r : Option Reg) → (ws : Option (List Tok)) → (f : Option Operand) → Tells (calling_with_at r ws f)
-calling_with_told r ws f = seq (the_told heads.OpenParen) (λ _. seq (arguments_told ws) (λ as'. called_told r f as'))
+calling_with_told r ws f = seq (the_told kinds.OpenParen) (λ _. seq (arguments_told ws) (λ as'. called_told r f as'))
 
 pub calling_of_told : (named : Bool) → (r : Option Reg) → Tells (calling_of_at named r)
 calling_of_told named r = seq maybe_types_told (λ ws. seq (callee_told named r) (λ f. calling_with_told r ws f))
@@ -156,4 +156,4 @@ calling_told named = seq conventions_told (λ _. seq result_told (λ r. calling_
 
 pub tail_calling_told : (named : Bool) → Tells (tail_calling_at named)
 unfolding tail_calling_at
-tail_calling_told named = seq (the_told heads.Call) (λ _. calling_told named)
+tail_calling_told named = seq (the_told kinds.Call) (λ _. calling_told named)

@@ -1,8 +1,8 @@
 -- The first fault of the readers of heads of functions is of a kind that its token allows.
 use Rattle.ir_parse.proofs.Told.{Tells, takes_of, seq, nothing, alt, many, maybe, class, valued, chain, the_told, one_told, type_refusal_refuses, name_refusal_refuses}
 use Rattle.std.specs.Prelude.{ℕ, Bool, true, false, List, [], ◌∷◌, ◌++◌}
-use Rattle.ir_lex.specs.declared.head.Head.TheVariants as heads
-use Rattle.ir_lex.specs.Heads.{number}
+use Rattle.ir_lex.specs.declared.token_kind.TokenKind.TheVariants as kinds
+use Rattle.ir_lex.specs.TokenKinds.{number}
 use Rattle.ir_tree.specs.declared.function.Linkage.{Linkage}
 use Rattle.ir_read.specs.Alphabet.{among}
 use Rattle.ir_parse.proofs.ToldAttributes.{parameter_attribute_told, parameter_attributes_told}
@@ -57,7 +57,7 @@ param_told = seq reg_told (λ r. seq parameter_attributes_told (λ _. seq (maybe
 
 pub further_param_told : Tells further_param_at
 unfolding further_param_at
-further_param_told = seq (the_told heads.Comma) (λ _. param_told)
+further_param_told = seq (the_told kinds.Comma) (λ _. param_told)
 
 pub params_behind_told : (room : ℕ) → (front : List Param) → Tells (params_behind_at room front)
 unfolding params_behind_at
@@ -68,16 +68,16 @@ unfolding some_params_at
 some_params_told room = seq param_told (λ first. params_behind_told room (first ∷ []))
 
 pub end_of_none_told : Tells end_of_none_at
-end_of_none_told = class type_refusal type_refusal_refuses (number heads.CloseParen)
+end_of_none_told = class type_refusal type_refusal_refuses (number kinds.CloseParen)
 
 pub listed_params_told : (room : ℕ) → Tells (listed_params_at room)
 unfolding listed_params_at
 listed_params_told room =
-    alt (among tokens REG) (seq (some_params_told room) (λ ps. seq (the_told heads.CloseParen) (λ _. nothing _))) (seq end_of_none_told (λ _. nothing _))
+    alt (among tokens REG) (seq (some_params_told room) (λ ps. seq (the_told kinds.CloseParen) (λ _. nothing _))) (seq end_of_none_told (λ _. nothing _))
 
 pub params_told : (room : ℕ) → Tells (params_at room)
 unfolding params_at
-params_told room = seq (the_told heads.OpenParen) (λ _. listed_params_told room)
+params_told room = seq (the_told kinds.OpenParen) (λ _. listed_params_told room)
 
 pub head_told : (role : Role) → (room : ℕ) → Tells (head_at role room)
 unfolding head_at

@@ -1,9 +1,9 @@
 -- The first fault of the readers of initialisers is of a kind that its token allows.
 use Rattle.ir_parse.proofs.Told.{behind_class, brace_behind_told, seq_behind, Tells, takes_of, seq, nothing, alt, Refuses, class, chain, the_told, one_told, refusal_refuses, memory_refusal_refuses}
 use Rattle.std.specs.Prelude.{Bool, true, false, Option, Some, None, List, [], ◌∷◌}
-use Rattle.ir_lex.specs.declared.head.Head.{Head}
-use Rattle.ir_lex.specs.declared.head.Head.TheVariants as heads
-use Rattle.ir_lex.specs.Heads.{number}
+use Rattle.ir_lex.specs.declared.token_kind.TokenKind.{TokenKind}
+use Rattle.ir_lex.specs.declared.token_kind.TokenKind.TheVariants as kinds
+use Rattle.ir_lex.specs.TokenKinds.{number}
 use Rattle.ir_tree.specs.declared.operand.Reg.{Reg}
 use Rattle.ir_read.specs.Alphabet.{among}
 use Rattle.ir_read.specs.Ahead.{BRACKETS}
@@ -21,7 +21,7 @@ use Rattle.ir_globals.proofs.InitialiserRules.{piece_rule}
 
 pub zeros_told : Tells zeros_at
 unfolding zeros_at
-zeros_told = seq (the_told heads.ZeroInitializer) (λ _. nothing _)
+zeros_told = seq (the_told kinds.ZeroInitializer) (λ _. nothing _)
 
 pub bytes_told : Tells bytes_at
 unfolding bytes_at
@@ -29,15 +29,15 @@ bytes_told = one_told BYTES (λ t. inits.Bytes t)
 
 pub array_begin_told : Tells array_begin_at
 unfolding array_begin_at
-array_begin_told = seq (the_told heads.OpenBracket) (λ _. nothing _)
+array_begin_told = seq (the_told kinds.OpenBracket) (λ _. nothing _)
 
 pub structure_begin_told : Tells structure_begin_at
 unfolding structure_begin_at
-structure_begin_told = seq (the_told heads.OpenBrace) (λ _. nothing _)
+structure_begin_told = seq (the_told kinds.OpenBrace) (λ _. nothing _)
 
 pub packed_begin_told : Tells packed_begin_at
 unfolding packed_begin_at
-packed_begin_told = behind_class heads.OpenAngle (λ _. seq_behind OPEN_ANGLE brace_behind_told (λ _. nothing _))
+packed_begin_told = behind_class kinds.OpenAngle (λ _. seq_behind OPEN_ANGLE brace_behind_told (λ _. nothing _))
 
 pub aggregate_begin_told : Tells aggregate_begin_at
 unfolding aggregate_begin_at
@@ -52,24 +52,24 @@ closing_refusal_refuses : (none : Bool) → Refuses (closing_refusal none)
 closing_refusal_refuses true = memory_refusal_refuses
 closing_refusal_refuses false = refusal_refuses
 
-pub mark_told : (none : Bool) → (wanted : Head) → Tells (mark_at none wanted)
+pub mark_told : (none : Bool) → (wanted : TokenKind) → Tells (mark_at none wanted)
 mark_told none wanted = class (closing_refusal none) (closing_refusal_refuses none) (number wanted)
 
 pub angle_told : (x0 : Bool) → Tells (angle_at x0)
-angle_told true = the_told heads.CloseAngle
+angle_told true = the_told kinds.CloseAngle
 angle_told false = nothing _
 
 pub brace_told : (none : Bool) → (packed : Bool) → Tells (brace_at none packed)
 unfolding brace_at
-brace_told none packed = seq (mark_told none heads.CloseBrace) (λ _. angle_told packed)
+brace_told none packed = seq (mark_told none kinds.CloseBrace) (λ _. angle_told packed)
 
 pub closing_told : (none : Bool) → (x1 : Aggregate) → Tells (closing_at none x1)
-closing_told none aggregates.Array = mark_told none heads.CloseBracket
+closing_told none aggregates.Array = mark_told none kinds.CloseBracket
 closing_told none (aggregates.Struct packed) = brace_told none packed
 
 pub part_shape_told : (x0 : Bool) → Tells (part_shape_at x0)
 part_shape_told true = memory_shape_told
-part_shape_told false = seq (the_told heads.Comma) (λ _. memory_shape_told)
+part_shape_told false = seq (the_told kinds.Comma) (λ _. memory_shape_told)
 
 pub part_told : (first : Bool) → Tells (part_at first)
 unfolding part_at

@@ -1,7 +1,7 @@
 -- The first fault of the readers of items is of a kind that its token allows.
 use Rattle.ir_parse.proofs.Told.{Tells, takes_of, seq, nothing, alt, barred, star, chain, the_told}
 use Rattle.std.specs.Prelude.{ℕ, Bool, nat_eq}
-use Rattle.ir_lex.specs.declared.head.Head.TheVariants as heads
+use Rattle.ir_lex.specs.declared.token_kind.TokenKind.TheVariants as kinds
 use Rattle.ir_lex.specs.Tok.{Tok}
 use Rattle.ir_read.specs.Alphabet.{among}
 use Rattle.ir_read.specs.declared.fault.TokenFault.TheVariants.{Limit}
@@ -76,7 +76,7 @@ attached_before_told = seq (star META refl attached_told) (λ _. nothing _)
 
 pub declaration_told : (room : ℕ) → Tells (declaration_at room)
 unfolding declaration_at
-declaration_told room = seq (the_told heads.Declare) (λ _. seq attached_before_told (λ _. seq (head_told roles.Declaration room) (λ h. nothing _)))
+declaration_told room = seq (the_told kinds.Declare) (λ _. seq attached_before_told (λ _. seq (head_told roles.Declaration room) (λ h. nothing _)))
 
 pub naming_told : (room : ℕ) → Tells (naming_at room)
 naming_told room =

@@ -1,7 +1,7 @@
 -- The first fault of the readers of instructions and lines is of a kind that its token allows.
 use Rattle.ir_parse.proofs.Told.{Tells, seq, nothing, alt, the_told, one_told}
 use Rattle.std.specs.Prelude.{Bool, true, false}
-use Rattle.ir_lex.specs.declared.head.Head.TheVariants as heads
+use Rattle.ir_lex.specs.declared.token_kind.TokenKind.TheVariants as kinds
 use Rattle.ir_lex.specs.Tok.{Tok}
 use Rattle.ir_tree.specs.declared.instr.CastOp.TheVariants as casts
 use Rattle.ir_read.specs.Alphabet.{among}
@@ -58,7 +58,7 @@ behind_told named opcodes.Call = calling_told named
 
 pub line_behind_told : (name : Tok) → Tells (line_behind_at name)
 unfolding line_behind_at
-line_behind_told name = seq (the_told heads.Equals) (λ _. seq (one_told GIVING opcode_of) (λ o. seq (behind_told true o) (λ i. nothing _)))
+line_behind_told name = seq (the_told kinds.Equals) (λ _. seq (one_told GIVING opcode_of) (λ o. seq (behind_told true o) (λ i. nothing _)))
 
 pub named_line_told : Tells named_line_at
 unfolding named_line_at

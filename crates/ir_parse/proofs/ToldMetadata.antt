@@ -1,7 +1,7 @@
 -- The first fault of the readers of metadata is of a kind that its token allows.
 use Rattle.ir_parse.proofs.Told.{Tells, run_line_told, seq, nothing, alt, star, maybe, the_told, one_told, group_told}
 use Rattle.std.specs.Prelude.{Bool, true, false, []}
-use Rattle.ir_lex.specs.declared.head.Head.TheVariants as heads
+use Rattle.ir_lex.specs.declared.token_kind.TokenKind.TheVariants as kinds
 use Rattle.ir_read.specs.Alphabet.{among}
 use Rattle.ir_read.specs.Classes.{tokens}
 use Rattle.ir_read.specs.Metadata.{META, ends_line}
@@ -12,7 +12,7 @@ use Rattle.std.proofs.Common.{refl}
 pub node_told : Tells node_at
 unfolding node_at
 node_told =
-    alt (among tokens NAMED) (seq (the_told heads.Meta) (λ _. seq (maybe (among tokens PAREN) (group_told Paren)) (λ _. nothing _))) (seq (the_told heads.Bang) (λ _. alt (among tokens CURLY) (group_told Curly) (group_told Paren)))
+    alt (among tokens NAMED) (seq (the_told kinds.Meta) (λ _. seq (maybe (among tokens PAREN) (group_told Paren)) (λ _. nothing _))) (seq (the_told kinds.Bang) (λ _. alt (among tokens CURLY) (group_told Curly) (group_told Paren)))
 
 pub attached_told : Tells attached_at
 unfolding attached_at
@@ -20,7 +20,7 @@ attached_told = seq (one_told META ends_line) (λ _. node_told)
 
 pub attachment_told : Tells attachment_at
 unfolding attachment_at
-attachment_told = seq (the_told heads.Comma) (λ _. attached_told)
+attachment_told = seq (the_told kinds.Comma) (λ _. attached_told)
 
 pub attachments_told : Tells attachments_at
 unfolding attachments_at

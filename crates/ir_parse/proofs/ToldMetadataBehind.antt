@@ -1,7 +1,7 @@
 -- The first fault of the readers of metadata behind a declaration's head is of a kind that its token allows.
 use Rattle.ir_parse.proofs.Told.{Tells, line_step_fits, run_line_told, seq, nothing, alt, maybe, single, the_told, one_told, AllowedBy, never_among, group_told}
 use Rattle.std.specs.Prelude.{ℕ, Bool, true, false, List, []}
-use Rattle.ir_lex.specs.declared.head.Head.TheVariants as heads
+use Rattle.ir_lex.specs.declared.token_kind.TokenKind.TheVariants as kinds
 use Rattle.ir_lex.specs.Tok.{Tok}
 use Rattle.ir_read.specs.Alphabet.{among}
 use Rattle.ir_read.specs.Runs.{Step, bad, last, onward}
@@ -41,7 +41,7 @@ goes_on_but_told apart d = seq (single (line_goes_on apart) (line_goes_on_allowe
 
 pub named_node_told : Tells named_node_at
 unfolding named_node_at
-named_node_told = seq (the_told heads.Meta) (λ _. seq (maybe (among tokens PAREN) (group_told Paren)) (λ _. nothing _))
+named_node_told = seq (the_told kinds.Meta) (λ _. seq (maybe (among tokens PAREN) (group_told Paren)) (λ _. nothing _))
 
 pub line_end_or_told : (apart : List ℕ) → disjoint apart REFUSED_EVERYWHERE ≡ true → (ends : Bool) → Tells (line_end_or_at apart ends)
 line_end_or_told apart d true = nothing _

@@ -1,6 +1,6 @@
 -- The kind of a fault fits the token at which it stands, in a whole module.
 use Rattle.std.proofs.Common.{◌≡◌, true, List, [], ◌∷◌, ◌++◌, length, Result, Ok, Err, refl, subst, inl}
-use Rattle.ir_lex.specs.Heads.{number}
+use Rattle.ir_lex.specs.TokenKinds.{number}
 use Rattle.ir_lex.specs.Tok.{Tok}
 use Rattle.ir_read.specs.Alphabet.{among}
 use Rattle.ir_read.specs.Faults.{FitsBound, FitsKind, StopsAt}
@@ -28,10 +28,10 @@ unfolding whole_module any_module
 module_law = (items_rule FURTHER_PARAMETERS GLOBAL_NAMES).law
 
 not_number : (t : Tok) → item_refusal t ≡ Number → ⊥
-not_number t e = name_not_number (number t.head) e
+not_number t e = name_not_number (number t.kind) e
 
 not_limit : (t : Tok) → item_refusal t ≡ Limit → ⊥
-not_limit t e = name_not_limit (number t.head) e
+not_limit t e = name_not_limit (number t.kind) e
 
 pub module_sound : (ts : List Tok) (is : List Item) → module_of ts ≡ Ok is → whole_module ts is
 unfolding module_of
@@ -55,7 +55,7 @@ module_told ts f e = by_result (reader ts) ((items_told FURTHER_PARAMETERS GLOBA
   where
     by_end : (front rest : List Tok) (is : List Item) → ts ≡ front ++ rest → ended item_refusal is rest ≡ wrong {X = List Item} f → Told ts f
     by_end front [] is w d = absurd (cc d)
-    by_end front (t ∷ rest) is w d = subst (Told ts) (wrong_is (record { left = length (t ∷ rest); kind = item_refusal t }) f d) (front, t ∷ rest, w, refl, inl (name_refusal_refuses (number t.head)))
+    by_end front (t ∷ rest) is w d = subst (Told ts) (wrong_is (record { left = length (t ∷ rest); kind = item_refusal t }) f d) (front, t ∷ rest, w, refl, inl (name_refusal_refuses (number t.kind)))
 
     by_result : (r : Result (List Item × List Tok) Fault) → Fits [] ts r → whole_of item_refusal r ≡ wrong {X = List Item} f → Told ts f
     by_result (Ok x) (front, w) d = by_end front x.1 x.0 w d

@@ -1,8 +1,8 @@
 -- The first fault of the readers of types, names and operands is of a kind that its token allows.
 use Rattle.ir_parse.proofs.Told.{Tells, seq, nothing, alt, one, exact, valued, the_told, refusal_refuses, type_refusal_refuses, memory_refusal_refuses}
 use Rattle.std.specs.Prelude.{true, [], ◌∷◌}
-use Rattle.ir_lex.specs.declared.head.Head.{Head}
-use Rattle.ir_lex.specs.Heads.{number}
+use Rattle.ir_lex.specs.declared.token_kind.TokenKind.{TokenKind}
+use Rattle.ir_lex.specs.TokenKinds.{number}
 use Rattle.ir_tree.specs.declared.operand.Reg.{Reg}
 use Rattle.ir_read.specs.Alphabet.{among}
 use Rattle.ir_read.specs.Classes.{tokens, refusal}
@@ -38,5 +38,5 @@ classes_of_apart Ptr = refl
 pub simple_told : (r : Reg) → Tells (simple_at r)
 simple_told r = valued refusal refusal_refuses (classes_of r) (classes_of_apart r) (operand_of r)
 
-pub maybe_told : (word : Head) → Tells (maybe_at word)
+pub maybe_told : (word : TokenKind) → Tells (maybe_at word)
 maybe_told word = alt (among tokens (number word ∷ [])) (seq (the_told word) (λ _. nothing _)) (nothing _)

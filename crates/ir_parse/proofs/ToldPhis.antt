@@ -1,7 +1,7 @@
 -- The first fault of the readers of phis is of a kind that its token allows.
 use Rattle.ir_parse.proofs.Told.{Tells, takes_of, seq, nothing, alt, chain, the_told}
 use Rattle.std.specs.Prelude.{Bool, true, false}
-use Rattle.ir_lex.specs.declared.head.Head.TheVariants as heads
+use Rattle.ir_lex.specs.declared.token_kind.TokenKind.TheVariants as kinds
 use Rattle.ir_tree.specs.declared.operand.Reg.{Reg}
 use Rattle.ir_read.specs.Alphabet.{among}
 use Rattle.ir_read.specs.Classes.{tokens}
@@ -17,7 +17,7 @@ use Rattle.ir_instructions.proofs.PhiRules.{further_rule}
 pub incoming_told : (r : Reg) → Tells (incoming_at r)
 unfolding incoming_at
 incoming_told r =
-    seq (the_told heads.OpenBracket) (λ _. seq (operand_told r) (λ v. seq (the_told heads.Comma) (λ _. seq local_told (λ from. seq (the_told heads.CloseBracket) (λ _. nothing _)))))
+    seq (the_told kinds.OpenBracket) (λ _. seq (operand_told r) (λ v. seq (the_told kinds.Comma) (λ _. seq local_told (λ from. seq (the_told kinds.CloseBracket) (λ _. nothing _)))))
 
 pub attaching_told : Tells attaching_at
 unfolding attaching_at
@@ -33,7 +33,7 @@ behind_comma_told r false = alt (among tokens META) attaching_told (entering_tol
 
 pub further_told : (r : Reg) → (s : Bool) → Tells (further_at r s)
 unfolding further_at
-further_told r s = seq (the_told heads.Comma) (λ _. behind_comma_told r s)
+further_told r s = seq (the_told kinds.Comma) (λ _. behind_comma_told r s)
 
 pub entries_told : (r : Reg) → (first : Incoming) → Tells (entries_at r first)
 unfolding entries_at

@@ -1,7 +1,7 @@
 -- The first fault of the readers of shapes is of a kind that its token allows.
 use Rattle.ir_parse.proofs.Told.{Tells, TellsBehind, Takes, behind_one, brace_behind_told, seq_behind, first_true, seq, nothing, alt, barred, single, value_allowed, valued, takes_token, takes_first, chain, the_told, one_told, refusal_refuses, AllowedBy, never_among, memory_refusal_refuses}
 use Rattle.std.specs.Prelude.{ℕ, zero, suc, Bool, true, false}
-use Rattle.ir_lex.specs.declared.head.Head.TheVariants as heads
+use Rattle.ir_lex.specs.declared.token_kind.TokenKind.TheVariants as kinds
 use Rattle.ir_lex.specs.Tok.{Tok}
 use Rattle.ir_read.specs.Alphabet.{among}
 use Rattle.ir_read.specs.Readers.{Reader}
@@ -44,7 +44,7 @@ count_told = valued refusal refusal_refuses NUMBER refl (count_of 64)
 pub elements_told : (of : ℕ → Reader Tok Typed) → ((a0 : ℕ) → Tells (of a0)) → (line : ℕ) → Tells (elements_at of line)
 unfolding elements_at
 elements_told of of_told line =
-    seq count_told (λ n. seq (the_told heads.Times) (λ _. seq (of_told n) (λ e. seq (the_told heads.CloseBracket) (λ _. nothing _))))
+    seq count_told (λ n. seq (the_told kinds.Times) (λ _. seq (of_told n) (λ e. seq (the_told kinds.CloseBracket) (λ _. nothing _))))
 
 pub array_told : (of : ℕ → Reader Tok Typed) → ((a0 : ℕ) → Tells (of a0)) → Tells (array_at of)
 unfolding array_at
@@ -52,7 +52,7 @@ array_told of of_told = seq (one_told OPEN_BRACKET line_of) (λ line. elements_t
 
 pub further_told : (packed : Bool) → (part : Extent → Reader Tok Typed) → ((a0 : Extent) → Tells (part a0)) → (s : Extent) → Tells (further_at packed part s)
 unfolding further_at
-further_told packed part part_told s = seq (the_told heads.Comma) (λ _. seq (part_told s) (λ p. nothing _))
+further_told packed part part_told s = seq (the_told kinds.Comma) (λ _. seq (part_told s) (λ p. nothing _))
 
 further_takes : (packed : Bool) (part : Extent → Reader Tok Typed) → ((a : Extent) → Tells (part a)) → (s : Extent) → Takes (further_at packed part s)
 unfolding further_at
@@ -61,12 +61,12 @@ further_takes packed part part_told s = takes_first (takes_token _) (λ _. seq (
 pub more_members_told : (packed : Bool) → (part : Extent → Reader Tok Typed) → ((a : Extent) → Tells (part a)) → (first : Written) → Tells (more_members_at packed part first)
 unfolding more_members_at
 more_members_told packed part part_told first =
-    seq (chain anywhere begins (λ s. further_told packed part part_told s) (λ s. further_takes packed part part_told s) (grown packed no_bytes (extent_of first))) (λ more. seq (the_told heads.CloseBrace) (λ _. nothing _))
+    seq (chain anywhere begins (λ s. further_told packed part part_told s) (λ s. further_takes packed part part_told s) (grown packed no_bytes (extent_of first))) (λ more. seq (the_told kinds.CloseBrace) (λ _. nothing _))
 
 pub members_told : (packed : Bool) → (part : Extent → Reader Tok Typed) → ((a0 : Extent) → Tells (part a0)) → Tells (members_at packed part)
 unfolding members_at
 members_told packed part part_told =
-    alt (among tokens CLOSE_BRACE) (seq (the_told heads.CloseBrace) (λ _. nothing _)) (seq (part_told no_bytes) (λ first. more_members_told packed part part_told first.shape))
+    alt (among tokens CLOSE_BRACE) (seq (the_told kinds.CloseBrace) (λ _. nothing _)) (seq (part_told no_bytes) (λ first. more_members_told packed part part_told first.shape))
 
 pub structure_told : (part : Extent → Reader Tok Typed) → ((a0 : Extent) → Tells (part a0)) → Tells (structure_at part)
 unfolding structure_at
@@ -75,7 +75,7 @@ structure_told part part_told = seq (one_told OPEN_BRACE line_of) (λ line. seq 
 pub packed_behind_told : (part : Extent → Reader Tok Typed) → ((a0 : Extent) → Tells (part a0)) → (line : ℕ) → TellsBehind OPEN_ANGLE (packed_behind_at part line)
 unfolding packed_behind_at
 packed_behind_told part part_told line =
-    seq_behind OPEN_ANGLE brace_behind_told (λ _. seq (members_told true part part_told) (λ parts. seq (the_told heads.CloseAngle) (λ _. nothing _)))
+    seq_behind OPEN_ANGLE brace_behind_told (λ _. seq (members_told true part part_told) (λ parts. seq (the_told kinds.CloseAngle) (λ _. nothing _)))
 
 pub packed_told : (part : Extent → Reader Tok Typed) → ((a0 : Extent) → Tells (part a0)) → Tells (packed_at part)
 unfolding packed_at

@@ -1,8 +1,8 @@
 -- The first fault of the readers of terminators is of a kind that its token allows.
 use Rattle.ir_parse.proofs.Told.{Tells, seq, nothing, alt, star, class, valued, the_told, one_told, refusal_refuses, type_refusal_refuses}
 use Rattle.std.specs.Prelude.{ℕ, Option, Some, None}
-use Rattle.ir_lex.specs.declared.head.Head.TheVariants as heads
-use Rattle.ir_lex.specs.Heads.{number}
+use Rattle.ir_lex.specs.declared.token_kind.TokenKind.TheVariants as kinds
+use Rattle.ir_lex.specs.TokenKinds.{number}
 use Rattle.ir_lex.specs.Tok.{Tok}
 use Rattle.ir_tree.specs.declared.operand.Reg.{Reg}
 use Rattle.ir_tree.specs.declared.operand.Reg.TheVariants.{Int, Ptr}
@@ -31,11 +31,11 @@ returning_told = seq result_told (λ r. returned_told r)
 
 pub target_told : Tells target_at
 unfolding target_at
-target_told = seq (the_told heads.LabelType) (λ _. local_told)
+target_told = seq (the_told kinds.LabelType) (λ _. local_told)
 
 pub branches_told : (condition : Operand) → Tells (branches_at condition)
 branches_told condition =
-    seq (the_told heads.Comma) (λ _. seq target_told (λ if_true. seq (the_told heads.Comma) (λ _. seq target_told (λ if_false. nothing _))))
+    seq (the_told kinds.Comma) (λ _. seq target_told (λ if_true. seq (the_told kinds.Comma) (λ _. seq target_told (λ if_false. nothing _))))
 
 pub branching_told : Tells branching_at
 unfolding branching_at
@@ -51,7 +51,7 @@ constant_told r = valued refusal refusal_refuses (case_classes r) (case_classes_
 
 pub case_of_told : (r : Reg) → Tells (case_of_at r)
 unfolding case_of_at
-case_of_told r = seq (constant_told r) (λ m. seq (the_told heads.Comma) (λ _. seq target_told (λ to. nothing _)))
+case_of_told r = seq (constant_told r) (λ m. seq (the_told kinds.Comma) (λ _. seq target_told (λ to. nothing _)))
 
 pub case_told : Tells case_at
 unfolding case_at
@@ -61,13 +61,13 @@ pub cases_told : Tells cases_at
 cases_told = star REG refl case_told
 
 pub end_of_cases_told : Tells end_of_cases_at
-end_of_cases_told = class type_refusal type_refusal_refuses (number heads.CloseBracket)
+end_of_cases_told = class type_refusal type_refusal_refuses (number kinds.CloseBracket)
 
 pub switched_told : (w : ℕ) → (value : Operand) → (default : Tok) → Tells (switched_at w value default)
-switched_told w value default = seq (the_told heads.OpenBracket) (λ _. seq cases_told (λ cases. seq end_of_cases_told (λ _. nothing _)))
+switched_told w value default = seq (the_told kinds.OpenBracket) (λ _. seq cases_told (λ cases. seq end_of_cases_told (λ _. nothing _)))
 
 pub switches_told : (w : ℕ) → (value : Operand) → Tells (switches_at w value)
-switches_told w value = seq (the_told heads.Comma) (λ _. seq target_told (λ default. switched_told w value default))
+switches_told w value = seq (the_told kinds.Comma) (λ _. seq target_told (λ default. switched_told w value default))
 
 pub switching_told : Tells switching_at
 unfolding switching_at

@@ -1,8 +1,8 @@
 -- The first fault of the readers of operands is of a kind that its token allows.
 use Rattle.ir_parse.proofs.Told.{Tells, seq, nothing, alt, star, class, valued, the_told, one_told, refusal_refuses, type_refusal_refuses}
 use Rattle.std.specs.Prelude.{ℕ, List, [], ◌∷◌, reverse}
-use Rattle.ir_lex.specs.declared.head.Head.TheVariants as heads
-use Rattle.ir_lex.specs.Heads.{number}
+use Rattle.ir_lex.specs.declared.token_kind.TokenKind.TheVariants as kinds
+use Rattle.ir_lex.specs.TokenKinds.{number}
 use Rattle.ir_tree.specs.declared.operand.Reg.{Reg}
 use Rattle.ir_read.specs.Alphabet.{among}
 use Rattle.ir_read.specs.Ahead.{STEPPING}
@@ -17,7 +17,7 @@ use Rattle.ir_operands.specs.ValuesAt.{ADDRESS, pointer_at, stepping_at, index_n
 use Rattle.std.proofs.Common.{refl}
 
 pub pointer_told : Tells pointer_at
-pointer_told = class type_refusal type_refusal_refuses (number heads.Ptr)
+pointer_told = class type_refusal type_refusal_refuses (number kinds.Ptr)
 
 pub stepping_told : Tells stepping_at
 unfolding stepping_at
@@ -28,14 +28,14 @@ index_number_told w = valued refusal refusal_refuses NUMBER refl (index_of w)
 
 pub index_told : Tells index_at
 unfolding index_at
-index_told = seq (the_told heads.Comma) (λ _. seq integer_told (λ w. index_number_told w))
+index_told = seq (the_told kinds.Comma) (λ _. seq integer_told (λ w. index_number_told w))
 
 pub indices_told : Tells indices_at
 indices_told = star COMMA refl index_told
 
 pub closing_one_told : (typed : Typed) → Tells (closing_one_at typed)
 unfolding closing_one_at
-closing_one_told typed = seq indices_told (λ indices. seq (the_told heads.CloseParen) (λ _. nothing _))
+closing_one_told typed = seq indices_told (λ indices. seq (the_told kinds.CloseParen) (λ _. nothing _))
 
 pub closing_told : (x0 : List Typed) → Tells (closing_at x0)
 closing_told [] = nothing _
@@ -44,11 +44,11 @@ closing_told (typed ∷ outer) = seq (closing_one_told typed) (λ one. seq (clos
 pub opened_told : Tells opened_at
 unfolding opened_at
 opened_told =
-    seq stepping_told (λ _. seq (the_told heads.OpenParen) (λ _. seq memory_shape_told (λ typed. seq (the_told heads.Comma) (λ _. seq pointer_told (λ _. nothing _)))))
+    seq stepping_told (λ _. seq (the_told kinds.OpenParen) (λ _. seq memory_shape_told (λ typed. seq (the_told kinds.Comma) (λ _. seq pointer_told (λ _. nothing _)))))
 
 pub opening_told : Tells opening_at
 unfolding opening_at
-opening_told = seq (the_told heads.GetElementPtr) (λ _. opened_told)
+opening_told = seq (the_told kinds.GetElementPtr) (λ _. opened_told)
 
 pub openings_told : Tells openings_at
 openings_told = star ADDRESS refl opening_told

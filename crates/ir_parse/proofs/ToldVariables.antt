@@ -1,7 +1,7 @@
 -- The first fault of the readers of variables is of a kind that its token allows.
 use Rattle.ir_parse.proofs.Told.{Tells, seq, nothing, alt, star, maybe, single, valued, the_told, one_told, name_refusal_refuses, is_alignment_allowed}
 use Rattle.std.specs.Prelude.{Bool, true, false, Option}
-use Rattle.ir_lex.specs.declared.head.Head.TheVariants as heads
+use Rattle.ir_lex.specs.declared.token_kind.TokenKind.TheVariants as kinds
 use Rattle.ir_lex.specs.Tok.{Tok}
 use Rattle.ir_tree.specs.declared.function.Linkage.{Linkage}
 use Rattle.ir_tree.specs.declared.operand.Reg.{Reg}
@@ -40,15 +40,15 @@ value_told false scalar = seq (initialiser_told scalar) (λ i. nothing _)
 
 pub comdat_name_told : Tells comdat_name_at
 unfolding comdat_name_at
-comdat_name_told = seq (the_told heads.OpenParen) (λ _. seq (the_told heads.ComdatName) (λ _. the_told heads.CloseParen))
+comdat_name_told = seq (the_told kinds.OpenParen) (λ _. seq (the_told kinds.ComdatName) (λ _. the_told kinds.CloseParen))
 
 pub in_comdat_told : Tells in_comdat_at
 unfolding in_comdat_at
-in_comdat_told = seq (the_told heads.Comdat) (λ _. seq (maybe (among tokens PAREN) comdat_name_told) (λ _. nothing _))
+in_comdat_told = seq (the_told kinds.Comdat) (λ _. seq (maybe (among tokens PAREN) comdat_name_told) (λ _. nothing _))
 
 pub aligned_told : Tells aligned_at
 unfolding aligned_at
-aligned_told = seq (the_told heads.Align) (λ _. seq (single is_alignment is_alignment_allowed) (λ n. nothing _))
+aligned_told = seq (the_told kinds.Align) (λ _. seq (single is_alignment is_alignment_allowed) (λ n. nothing _))
 
 pub marked_told : Tells marked_at
 unfolding marked_at
@@ -56,7 +56,7 @@ marked_told = seq attached_told (λ _. nothing _)
 
 pub further_told : Tells further_at
 unfolding further_at
-further_told = seq (the_told heads.Comma) (λ _. alt (among tokens COMDAT) in_comdat_told (alt (among tokens ALIGN) aligned_told marked_told))
+further_told = seq (the_told kinds.Comma) (λ _. alt (among tokens COMDAT) in_comdat_told (alt (among tokens ALIGN) aligned_told marked_told))
 
 pub tail_told : Tells tail_at
 unfolding tail_at
@@ -70,4 +70,4 @@ behind_kind_told name l constant =
 pub variable_line_told : Tells variable_line_at
 unfolding variable_line_at
 variable_line_told =
-    seq variable_name_told (λ name. seq (the_told heads.Equals) (λ _. seq linked_told (λ l. seq (one_told KINDS is_constant) (λ constant. behind_kind_told name l constant))))
+    seq variable_name_told (λ name. seq (the_told kinds.Equals) (λ _. seq linked_told (λ l. seq (one_told KINDS is_constant) (λ constant. behind_kind_told name l constant))))

@@ -8,7 +8,7 @@ use Rattle.ir_names.specs.declared.fault.Fault.{Fault}
 use Rattle.ir_names.specs.Keys.{key_of}
 use Rattle.ir_names.specs.Locals.{twice}
 use Rattle.ir_names.specs.Marks.{Mark, all, block_marks, both, end_marks, head_marks, init_marks, instr_marks, item_marks, level_uses, marks_of, operand_marks, part_marks, type_name, type_use, typed_marks, uses, all_uses, uses_if, variable_marks}
-use Rattle.ir_names.specs.Settled.{◌>>=◌}
+use Rattle.ir_names.specs.Resolving.{◌>>=◌}
 use Rattle.ir_names.specs.TypeNames.{all_typed, first_types, type_names, typed_by, use_in}
 use Rattle.ir_names.specs.Types.{Types, entry_of, shape_if, with_type}
 use Rattle.ir_read.specs.Shapes as written

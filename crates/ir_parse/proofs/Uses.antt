@@ -6,7 +6,7 @@ use Rattle.ir_lex.specs.Tok.{Tok}
 use Rattle.ir_names.specs.declared.locals.Sort.{Sort}
 use Rattle.ir_names.specs.declared.locals.Sort.TheVariants.{Value, Block}
 use Rattle.ir_names.specs.Keys.{Key, key_of, same_key}
-use Rattle.ir_names.specs.Locals.{Known, is_used_as, number_in, same_sort, sort_of, unknown}
+use Rattle.ir_names.specs.Locals.{LocalTable, is_used_as, number_in, same_sort, sort_of, unknown}
 use Rattle.ir_parse.proofs.Gives.{Gives, gives, fails}
 use Rattle.ir_parse.proofs.Numbering.{sorts_of}
 
@@ -32,10 +32,10 @@ found s key (d ∷ ds) h = by (same_key key d.0) refl h (found s key ds)
     by true e h more = rw e (one_sort s d.1 h)
     by false e h more = rw e (later (more h))
 
-abbrev pub IsPlace : Known → Sort → ℕ → Type 0
+abbrev pub IsPlace : LocalTable → Sort → ℕ → Type 0
 IsPlace known s n = slice_get (sorts_of known) n ≡ Some s
 
-pub used : (known : Known) (s : Sort) (name : Tok) → Gives (number_in known s name) (IsPlace known s)
+pub used : (known : LocalTable) (s : Sort) (name : Tok) → Gives (number_in known s name) (IsPlace known s)
 used known s name = by (is_used_as s (sort_of known.definitions (key_of name))) refl
   where
     by : (b : Bool) → is_used_as s (sort_of known.definitions (key_of name)) ≡ b → Gives (if b then Ok (place known.definitions (key_of name)) else Err (unknown name.line)) (IsPlace known s)

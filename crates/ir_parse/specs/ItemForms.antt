@@ -4,8 +4,8 @@
 -- before it, and says what stands before the next one.
 use Rattle.std.specs.Prelude.{ℕ, zero, suc, ◌-◌, Bool, true, nat_eq, if◌then◌else◌, Option, Some, None, List, [], ◌∷◌, ◌++◌}
 use Rattle.std.specs.List.{fold}
-use Rattle.ir_lex.specs.declared.head.Head.TheVariants as heads
-use Rattle.ir_lex.specs.Heads.{number}
+use Rattle.ir_lex.specs.declared.token_kind.TokenKind.TheVariants as kinds
+use Rattle.ir_lex.specs.TokenKinds.{number}
 use Rattle.ir_lex.specs.Tok.{Tok}
 use Rattle.ir_read.specs.Chained.{Chain}
 use Rattle.ir_read.specs.Forms.{Form, ◌>>=◌, either, gives, Star}
@@ -22,29 +22,29 @@ use Rattle.ir_heads.specs.declared.function_heads.Role.TheVariants as roles
 use Rattle.ir_read.specs.declared.places.Before.{Before}
 use Rattle.ir_read.specs.declared.places.Before.TheVariants as befores
 use Rattle.ir_read.specs.declared.places.Position.{Position}
-use Rattle.ir_read.specs.declared.raw.Head.{Head}
+use Rattle.ir_read.specs.declared.raw.FunctionHeader.{FunctionHeader}
 use Rattle.ir_read.specs.declared.raw.Item.{Item}
 use Rattle.ir_read.specs.declared.raw.Item.TheVariants.{Declaration}
 use Rattle.ir_read.specs.declared.shape.Typed.{Typed}
 use Rattle.ir_operands.specs.ShapeForms.{any_shape, memory_shape}
 
 -- an item, where it is kept, and what stands before the next one
-abbrev pub Found : Type 0
-Found = Option Item × Before
+abbrev pub ParsedItem : Type 0
+ParsedItem = Option Item × Before
 
-unfoldable pub left_out : Form Tok (Unit {0}) → Form Tok Found
+unfoldable pub left_out : Form Tok (Unit {0}) → Form Tok ParsedItem
 left_out g = do
   _ ← g
   gives (None, befores.Item)
 
-unfoldable pub kept : Form Tok Item → Form Tok Found
+unfoldable pub kept : Form Tok Item → Form Tok ParsedItem
 kept g = do
   i ← g
   gives (Some i, befores.Item)
 
 -- ---- items that define and declare no global name, over what spells a shape
 
-unfoldable pub unnamed : Form Tok Typed → Form Tok Found
+unfoldable pub unnamed : Form Tok Typed → Form Tok ParsedItem
 unnamed shape = either (left_out source_line)
     (either (kept target_line)
     (either (left_out comdat_line)
@@ -52,35 +52,35 @@ unnamed shape = either (left_out source_line)
     (kept attribute_group))))
 
 -- an attribute behind a declaration's head, which is dropped
-unfoldable pub attribute_behind : Form Tok Found
+unfoldable pub attribute_behind : Form Tok ParsedItem
 attribute_behind = do
   _ ← head_attribute
   gives (None, befores.Declaration)
 
-unfoldable pub placed : Form Tok Before → Form Tok Found
+unfoldable pub placed : Form Tok Before → Form Tok ParsedItem
 placed g = do
   before ← g
   gives (None, before)
 
 -- metadata, by what stands before it
-abbrev pub metadata_there : Before → Form Tok Found
+abbrev pub metadata_there : Before → Form Tok ParsedItem
 metadata_there befores.Item = left_out metadata_line
 metadata_there befores.Declaration = placed metadata_behind
 metadata_there befores.Name = placed node_yet
 
-abbrev pub plainly : Form Tok Typed → Before → Form Tok Found
+abbrev pub plainly : Form Tok Typed → Before → Form Tok ParsedItem
 plainly shape befores.Item = unnamed shape
 plainly shape befores.Declaration = either attribute_behind (unnamed shape)
 plainly shape befores.Name = unnamed shape
 
-unfoldable pub beside : Form Tok Typed → Before → Form Tok Found
+unfoldable pub beside : Form Tok Typed → Before → Form Tok ParsedItem
 beside shape before = either (metadata_there before) (plainly shape before)
 
 -- ---- items that define or declare a global name
 
 -- a declaration of a lifetime marker is dropped
-abbrev pub declared : Head → Option Item
-declared h = if nat_eq (number h.name.head) (number heads.LifetimeMarker) then None else Some (Declaration h)
+abbrev pub declared : FunctionHeader → Option Item
+declared h = if nat_eq (number h.name.kind) (number kinds.LifetimeMarker) then None else Some (Declaration h)
 
 -- {Meta node}
 unfoldable pub attached_before : Form Tok (Unit {0})
@@ -89,33 +89,33 @@ attached_before = do
   gives tt
 
 -- declare {Meta node} head, but for the attributes behind it; so many parameters at most behind the first
-unfoldable pub declaration : ℕ → Form Tok Found
+unfoldable pub declaration : ℕ → Form Tok ParsedItem
 declaration room = do
-  _ ← the heads.Declare
+  _ ← the kinds.Declare
   _ ← attached_before
   h ← head roles.Declaration room
   gives (declared h, befores.Declaration)
 
-unfoldable pub any_declaration : Form Tok Found
+unfoldable pub any_declaration : Form Tok ParsedItem
 any_declaration = do
-  _ ← the heads.Declare
+  _ ← the kinds.Declare
   _ ← attached_before
   h ← any_head roles.Declaration
   gives (declared h, befores.Declaration)
 
-abbrev pub naming : ℕ → Form Tok Found
+abbrev pub naming : ℕ → Form Tok ParsedItem
 naming room = either (kept (variable_line variable_name memory_shape))
     (either (declaration room)
     (kept (definition room)))
 
-abbrev pub any_naming : Form Tok Found
+abbrev pub any_naming : Form Tok ParsedItem
 any_naming = either (kept (variable_line any_variable_name any_shape))
     (either any_declaration
     (kept any_definition))
 
 -- ---- all items, with how many global names there may still be
 
-abbrev pub at_place : ℕ → Found → Option Item × Position
+abbrev pub at_place : ℕ → ParsedItem → Option Item × Position
 at_place names x = (x.0, record { before = x.1; names = names })
 
 unfoldable pub other : Form Tok Typed → Before → ℕ → Form Tok (Option Item × Position)

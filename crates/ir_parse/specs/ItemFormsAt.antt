@@ -1,8 +1,8 @@
 -- What the readers of items give.
 use Rattle.std.specs.Prelude.{ℕ, ◌-◌, Bool, nat_eq, if◌then◌else◌, Option, Some, None, List, [], ◌∷◌, ◌++◌}
 use Rattle.std.specs.List.{fold}
-use Rattle.ir_lex.specs.declared.head.Head.TheVariants as heads
-use Rattle.ir_lex.specs.Heads.{number}
+use Rattle.ir_lex.specs.declared.token_kind.TokenKind.TheVariants as kinds
+use Rattle.ir_lex.specs.TokenKinds.{number}
 use Rattle.ir_lex.specs.Tok.{Tok}
 use Rattle.ir_read.specs.Alphabet.{among}
 use Rattle.ir_read.specs.Chained.{chain_at}
@@ -15,7 +15,7 @@ use Rattle.ir_globals.specs.VariablesAt.{variable_line_at}
 use Rattle.ir_heads.specs.AttributesAt.{HEAD, head_attribute_at, attribute_group_at}
 use Rattle.ir_read.specs.Classes.{tokens, the_at}
 use Rattle.ir_heads.specs.FunctionHeadsAt.{head_at}
-use Rattle.ir_parse.specs.ItemForms.{Found, declared, at_place, anywhere, keep}
+use Rattle.ir_parse.specs.ItemForms.{ParsedItem, declared, at_place, anywhere, keep}
 use Rattle.ir_read.specs.Metadata.{META}
 use Rattle.ir_read.specs.MetadataAt.{attached_at, metadata_line_at}
 use Rattle.ir_read.specs.MetadataBehindAt.{metadata_behind_at, node_yet_at}
@@ -29,19 +29,19 @@ use Rattle.ir_read.specs.declared.raw.Item.{Item}
 
 -- what items begin with
 abbrev pub SOURCE : List ℕ
-SOURCE = number heads.SourceFilename ∷ []
+SOURCE = number kinds.SourceFilename ∷ []
 
 abbrev pub TARGET : List ℕ
-TARGET = number heads.Target ∷ []
+TARGET = number kinds.Target ∷ []
 
 abbrev pub COMDAT : List ℕ
-COMDAT = number heads.ComdatName ∷ []
+COMDAT = number kinds.ComdatName ∷ []
 
 abbrev pub UNNAMED : List ℕ
-UNNAMED = number heads.SourceFilename ∷ number heads.Target ∷ number heads.ComdatName ∷ number heads.Local ∷ number heads.Attributes ∷ []
+UNNAMED = number kinds.SourceFilename ∷ number kinds.Target ∷ number kinds.ComdatName ∷ number kinds.Local ∷ number kinds.Attributes ∷ []
 
 abbrev pub DECLARE : List ℕ
-DECLARE = number heads.Declare ∷ []
+DECLARE = number kinds.Declare ∷ []
 
 abbrev pub NAMING : List ℕ
 NAMING = NAMES ++ (DECLARE ++ DEFINE)
@@ -55,44 +55,44 @@ beginnings befores.Item = ITEM
 beginnings befores.Declaration = HEAD ++ ITEM
 beginnings befores.Name = ITEM
 
-unfoldable pub left_out_at : Reader Tok (Unit {0}) → Reader Tok Found
+unfoldable pub left_out_at : Reader Tok (Unit {0}) → Reader Tok ParsedItem
 left_out_at f = do
   _ ← f
   done (None, befores.Item)
 
-unfoldable pub kept_at : Reader Tok Item → Reader Tok Found
+unfoldable pub kept_at : Reader Tok Item → Reader Tok ParsedItem
 kept_at f = do
   i ← f
   done (Some i, befores.Item)
 
-unfoldable pub unnamed_at : Reader Tok Found
+unfoldable pub unnamed_at : Reader Tok ParsedItem
 unnamed_at = pick (among tokens SOURCE) (left_out_at source_line_at)
     (pick (among tokens TARGET) (kept_at target_line_at)
     (pick (among tokens COMDAT) (left_out_at comdat_line_at)
     (pick (among tokens LOCAL) (kept_at type_line_at)
     (kept_at attribute_group_at))))
 
-unfoldable pub attribute_behind_at : Reader Tok Found
+unfoldable pub attribute_behind_at : Reader Tok ParsedItem
 attribute_behind_at = do
   _ ← head_attribute_at
   done (None, befores.Declaration)
 
-unfoldable pub placed_at : Reader Tok Before → Reader Tok Found
+unfoldable pub placed_at : Reader Tok Before → Reader Tok ParsedItem
 placed_at f = do
   before ← f
   done (None, before)
 
-abbrev pub metadata_there_at : Before → Reader Tok Found
+abbrev pub metadata_there_at : Before → Reader Tok ParsedItem
 metadata_there_at befores.Item = left_out_at metadata_line_at
 metadata_there_at befores.Declaration = placed_at metadata_behind_at
 metadata_there_at befores.Name = placed_at node_yet_at
 
-abbrev pub plainly_at : Before → Reader Tok Found
+abbrev pub plainly_at : Before → Reader Tok ParsedItem
 plainly_at befores.Item = unnamed_at
 plainly_at befores.Declaration = pick (among tokens HEAD) attribute_behind_at unnamed_at
 plainly_at befores.Name = unnamed_at
 
-unfoldable pub beside_at : Before → Reader Tok Found
+unfoldable pub beside_at : Before → Reader Tok ParsedItem
 beside_at before = pick (among tokens META) (metadata_there_at before) (plainly_at before)
 
 unfoldable pub attached_before_at : Reader Tok (Unit {0})
@@ -100,14 +100,14 @@ attached_before_at = do
   _ ← star_at (among tokens META) attached_at
   done tt
 
-unfoldable pub declaration_at : ℕ → Reader Tok Found
+unfoldable pub declaration_at : ℕ → Reader Tok ParsedItem
 declaration_at room = do
-  _ ← the_at heads.Declare
+  _ ← the_at kinds.Declare
   _ ← attached_before_at
   h ← head_at roles.Declaration room
   done (declared h, befores.Declaration)
 
-abbrev pub naming_at : ℕ → Reader Tok Found
+abbrev pub naming_at : ℕ → Reader Tok ParsedItem
 naming_at room = pick (among tokens NAMES) (kept_at variable_line_at)
     (pick (among tokens DECLARE) (declaration_at room)
     (kept_at (definition_at room)))

@@ -1,7 +1,7 @@
 -- What the grammar makes of the items of a module.
 use Rattle.std.specs.Prelude.{◌≡◌, Bool, false, [], Option, Some, None}
 use Rattle.std.specs.List.{AllByRecursion as Each}
-use Rattle.ir_read.specs.declared.raw.Head.{Head}
+use Rattle.ir_read.specs.declared.raw.FunctionHeader.{FunctionHeader}
 use Rattle.ir_read.specs.declared.raw.Init.{Init}
 use Rattle.ir_read.specs.declared.raw.InitPart.{InitPart}
 use Rattle.ir_read.specs.declared.raw.InitPart.TheVariants as parts
@@ -11,7 +11,7 @@ use Rattle.ir_names.specs.Types.{shape_if}
 use Rattle.ir_parse.specs.Written.{IsWritten, ShapeWritten, TypeWritten, VariableWritten}
 
 -- no attribute of a declaration is kept
-pub record IsDeclared (head : Head) : Type 0 where
+pub record IsDeclared (head : FunctionHeader) : Type 0 where
   pub written : IsWritten head [] false false
   pub noinline : head.noinline ≡ false
   pub optnone : head.optnone ≡ false

@@ -1,7 +1,7 @@
 -- Lines and what stands on them.
 use Rattle.std.specs.Prelude.{◌≡◌, Bool, List, length, flat_map, IfOk}
 use Rattle.ir_read.specs.declared.raw.Block as raw_block
-use Rattle.ir_read.specs.declared.raw.Head as raw_head
+use Rattle.ir_read.specs.declared.raw.FunctionHeader as raw_head
 use Rattle.ir_tree.specs.Items.{items}
 use Rattle.named_values.specs.Blocks.{function_in}
 use Rattle.ir_names.specs.Types.{Types}
@@ -10,4 +10,4 @@ use Rattle.ir_parse.specs.Lines.{block_lines}
 -- a function has a line for each phi, instruction and terminator
 abbrev pub LinesFit : Type 0
 LinesFit =
-    (types : Types) (head : raw_head.Head) (blocks : List raw_block.Block) (noinline optnone : Bool) → IfOk (function_in types head blocks noinline optnone) (λ f. length (flat_map block_lines blocks) ≡ length (items f))
+    (types : Types) (head : raw_head.FunctionHeader) (blocks : List raw_block.Block) (noinline optnone : Bool) → IfOk (function_in types head blocks noinline optnone) (λ f. length (flat_map block_lines blocks) ≡ length (items f))

@@ -1,7 +1,7 @@
 -- Whole modules (LangRef, "Module Structure").
 use Rattle.std.specs.Prelude.{ℕ, Result, List, length, drop, ◌-◌}
 use Rattle.ir_lex.specs.declared.token.Token.{Token}
-use Rattle.ir_lex.specs.Heads.{number}
+use Rattle.ir_lex.specs.TokenKinds.{number}
 use Rattle.ir_lex.specs.Tok.{Tok, toks}
 use Rattle.ir_read.specs.declared.fault.Fault.{Fault}
 use Rattle.ir_read.specs.declared.fault.TokenFault.{TokenFault}
@@ -32,7 +32,7 @@ any_module = any_items GLOBAL_NAMES
 
 -- why a token can't stand where an item may begin
 abbrev pub item_refusal : Tok → TokenFault
-item_refusal t = name_refusal (number t.head)
+item_refusal t = name_refusal (number t.kind)
 
 unfoldable pub module_of : List Tok → Result (List Item) Fault
 module_of ts = whole_of item_refusal (items_at FURTHER_PARAMETERS GLOBAL_NAMES ts)

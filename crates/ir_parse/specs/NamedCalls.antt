@@ -2,7 +2,7 @@
 -- some part of a module up to that callee.
 use Rattle.std.specs.Prelude.{ℕ}
 use Rattle.ir_lex.specs.Tok.{Tok}
-use Rattle.ir_lex.specs.declared.head.Head.TheVariants as heads
+use Rattle.ir_lex.specs.declared.token_kind.TokenKind.TheVariants as kinds
 use Rattle.ir_read.specs.Chained.{Chain}
 use Rattle.ir_read.specs.Forms.{Form, ◌>>=◌, gives, optional, Star}
 use Rattle.ir_instructions.specs.Addressing.{any_slots}
@@ -21,7 +21,7 @@ use Rattle.ir_parse.specs.Modules.{GLOBAL_NAMES}
 unfoldable pub before_callee : Form Tok (Unit {0})
 before_callee = do
   _ ← conventions
-  _ ← the heads.Void
+  _ ← the kinds.Void
   _ ← optional types
   gives tt
 
@@ -29,9 +29,9 @@ before_callee = do
 unfoldable pub before_named_callee : Form Tok (Unit {0})
 before_named_callee = do
   _ ← any_local
-  _ ← the heads.Equals
-  _ ← optional (the heads.TailMark)
-  _ ← the heads.Call
+  _ ← the kinds.Equals
+  _ ← optional (the kinds.TailMark)
+  _ ← the kinds.Call
   before_callee
 
 -- {[Local =] instr {att}}
@@ -55,10 +55,10 @@ in_blocks room = do
 -- define head {
 unfoldable pub in_definition : Form Tok (Unit {0})
 in_definition = do
-  _ ← the heads.Define
+  _ ← the kinds.Define
   _ ← any_head roles.Definition
   _ ← definition_attributes
-  _ ← the heads.OpenBrace
+  _ ← the kinds.OpenBrace
   in_blocks INSTRUCTIONS
 
 -- {item}

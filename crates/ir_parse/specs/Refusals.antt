@@ -1,8 +1,8 @@
 -- Why a token is refused with which no module goes on (LangRef, "Identifiers", "Type System").
 use Rattle.std.specs.Prelude.{◌≡◌, ℕ, nat_eq, Bool, true, false, List, [], ◌∷◌, ◌++◌}
-use Rattle.ir_lex.specs.Heads.{number}
+use Rattle.ir_lex.specs.TokenKinds.{number}
 use Rattle.ir_lex.specs.Tok.{Tok}
-use Rattle.ir_lex.specs.declared.head.Head.TheVariants as heads
+use Rattle.ir_lex.specs.declared.token_kind.TokenKind.TheVariants as kinds
 use Rattle.ir_read.specs.Alphabet.{among, is_literal, is_number}
 use Rattle.ir_read.specs.Faults.{Extends, Viable}
 use Rattle.ir_read.specs.Classes.{IsReal, tokens}
@@ -13,7 +13,7 @@ use Rattle.ir_operands.specs.ShapeForms.{OPEN_ANGLE, OPEN_BRACE}
 use Rattle.ir_parse.specs.Modules.{any_module, whole_module}
 use Rattle.ir_parse.specs.NamedCalls.{in_module}
 use Rattle.ir_tree.specs.declared.fault_kind.FaultKind.{FaultKind}
-use Rattle.ir_tree.specs.declared.fault_kind.FaultKind.TheVariants as kinds
+use Rattle.ir_tree.specs.declared.fault_kind.FaultKind.TheVariants as unread
 
 -- ---- what goes on
 
@@ -45,29 +45,29 @@ StringGoesOn front t = (among tokens STRING t ≡ true) × SomeGoesOn STRING fro
 
 -- wherever it stands: words, integers of no bits or of more than 64, names that LLVM keeps for itself, `...`, `^` and a `#` before a word
 abbrev pub REFUSED_EVERYWHERE : List ℕ
-REFUSED_EVERYWHERE = number heads.RefusedWord ∷ number heads.RefusedAttribute ∷ number heads.RefusedInteger ∷ number heads.ReservedGlobal ∷ number heads.RefusedMark ∷ []
+REFUSED_EVERYWHERE = number kinds.RefusedWord ∷ number kinds.RefusedAttribute ∷ number kinds.RefusedInteger ∷ number kinds.ReservedGlobal ∷ number kinds.RefusedMark ∷ []
 
 -- `metadata`, `token`, types of floats and others
 abbrev pub TYPE : List ℕ
-TYPE = number heads.RefusedType ∷ []
+TYPE = number kinds.RefusedType ∷ []
 
 abbrev pub TARGET : List ℕ
-TARGET = number heads.Target ∷ []
+TARGET = number kinds.Target ∷ []
 
 -- iN that memory holds: i8, i16, i32, i64
 abbrev pub MEMORY : List ℕ
-MEMORY = number heads.MemoryInteger ∷ []
+MEMORY = number kinds.MemoryInteger ∷ []
 
 -- iN of another N from 1 to 64
 abbrev pub INTEGER : List ℕ
-INTEGER = number heads.RegisterInteger ∷ []
+INTEGER = number kinds.RegisterInteger ∷ []
 
 abbrev pub MARKER : List ℕ
-MARKER = number heads.LifetimeMarker ∷ []
+MARKER = number kinds.LifetimeMarker ∷ []
 
 -- a plain word
 abbrev pub WORD : List ℕ
-WORD = number heads.Word ∷ []
+WORD = number kinds.Word ∷ []
 
 -- the last of these tokens is such a one
 abbrev pub last_is : (Tok → Bool) → List Tok → Bool
@@ -77,7 +77,7 @@ last_is p (t ∷ u ∷ us) = last_is p (u ∷ us)
 
 -- a number directly behind `<`
 abbrev pub BeginsVector : List Tok → Tok → Type 0
-BeginsVector front t = (nat_eq (number t.head) (number heads.Number) ≡ true) × (last_is (among tokens OPEN_ANGLE) front ≡ true)
+BeginsVector front t = (nat_eq (number t.kind) (number kinds.Number) ≡ true) × (last_is (among tokens OPEN_ANGLE) front ≡ true)
 
 -- the callee of a void call that has a name stands next
 abbrev pub NamedVoidCall : List Tok → Type 0
@@ -109,9 +109,9 @@ WithinRange front t = (GoesOn front t → ⊥) × (NumberGoesOn front t → ⊥)
 -- number; where both is so, the number of a name is out of range, and a literal passes a limit. Of other tokens a string is a layout that
 -- isn't supported where another string goes on; what is left out is told with its bytes; and the rest is against the syntax.
 abbrev pub IsRefusedFor : List Tok → Tok → FaultKind → Type 0
-IsRefusedFor front t kinds.Limit = GoesOn front t × (NumberGoesOn front t → is_literal tokens t ≡ true)
-IsRefusedFor front t kinds.Number = NumberGoesOn front t × (GoesOn front t → is_literal tokens t ≡ false)
-IsRefusedFor front t kinds.Layout = WithinRange front t × StringGoesOn front t
-IsRefusedFor front t (kinds.Profile word) = (word ≡ t.text) × WithinRange front t × LeftOut front t
-IsRefusedFor front t kinds.Syntax = WithinRange front t × (StringGoesOn front t → ⊥) × (LeftOut front t → ⊥)
+IsRefusedFor front t unread.Limit = GoesOn front t × (NumberGoesOn front t → is_literal tokens t ≡ true)
+IsRefusedFor front t unread.Number = NumberGoesOn front t × (GoesOn front t → is_literal tokens t ≡ false)
+IsRefusedFor front t unread.Layout = WithinRange front t × StringGoesOn front t
+IsRefusedFor front t (unread.Profile word) = (word ≡ t.text) × WithinRange front t × LeftOut front t
+IsRefusedFor front t unread.Syntax = WithinRange front t × (StringGoesOn front t → ⊥) × (LeftOut front t → ⊥)
 IsRefusedFor front t kind = ⊥

@@ -1,7 +1,7 @@
 -- What holds of functions and variables with their names resolved.
 use Rattle.std.specs.Prelude.{◌≡◌, Bool, false, List, [], ◌++◌, Ok}
 use Rattle.ir_read.specs.declared.raw.Block.{Block}
-use Rattle.ir_read.specs.declared.raw.Head.{Head}
+use Rattle.ir_read.specs.declared.raw.FunctionHeader.{FunctionHeader}
 use Rattle.ir_read.specs.declared.raw.Variable as raw
 use Rattle.ir_read.specs.declared.shape.Typed.{Typed}
 use Rattle.ir_tree.specs.Flow.{locals}
@@ -19,7 +19,7 @@ use Rattle.ir_parse.specs.Written.{IsWritten, ShapeWritten, TypesWritten, Variab
 -- locals and blocks get numbers of their own, whatever is written
 abbrev pub DefinitionsDiffer : Type 0
 DefinitionsDiffer =
-    (types : Types) (head : Head) (blocks : List Block) (noinline optnone : Bool) (f : Function)
+    (types : Types) (head : FunctionHeader) (blocks : List Block) (noinline optnone : Bool) (f : Function)
     → function_in types head blocks noinline optnone ≡ Ok f → Distinct (locals f ++ numbers f)
 
 -- a shape that expands is one that memory may hold
@@ -31,7 +31,7 @@ ShapesAreWithin =
 -- what is resolved of a function that the grammar makes is formed
 abbrev pub FunctionsAreFormed : Type 0
 FunctionsAreFormed =
-    (types : Types) (head : Head) (blocks : List Block) (noinline optnone : Bool) (f : Function)
+    (types : Types) (head : FunctionHeader) (blocks : List Block) (noinline optnone : Bool) (f : Function)
     → TypesWritten types → IsWritten head blocks noinline optnone
     → function_in types head blocks noinline optnone ≡ Ok f → Formed f
 

@@ -5,7 +5,7 @@ use Rattle.ir_tree.specs.declared.module.Module.{Module}
 use Rattle.ir_names.specs.declared.fault.Fault.{Fault}
 use Rattle.ir_names.specs.Groups.{groups_of}
 use Rattle.ir_names.specs.Marks.{marks_of}
-use Rattle.ir_names.specs.Settled.{◌>>=◌}
+use Rattle.ir_names.specs.Resolving.{◌>>=◌}
 use Rattle.ir_names.specs.Stages.{marks_within, globals_named}
 use Rattle.ir_names.specs.TypeNames.{type_names}
 use Rattle.ir_names.specs.Types.{Types}

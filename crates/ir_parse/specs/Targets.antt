@@ -22,7 +22,7 @@ last_or before (t ∷ ts) = last_or (Some t) ts
 -- what a string says; no string is the empty text
 abbrev pub text_of : Option Tok → List ℕ
 text_of None = []
-text_of (Some string) = content string.kind string.text
+text_of (Some string) = content string.form string.text
 
 -- of several lines the last stands
 abbrev pub datalayout_of : List Item → List ℕ

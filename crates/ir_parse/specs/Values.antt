@@ -9,7 +9,7 @@ use Rattle.ir_names.specs.declared.fault.Fault.{Fault}
 use Rattle.ir_names.specs.declared.groups.Groups.{Groups}
 use Rattle.named_values.specs.Blocks.{function_in}
 use Rattle.ir_names.specs.Groups.{is_noinline, is_optnone}
-use Rattle.ir_names.specs.Settled.{◌>>=◌}
+use Rattle.ir_names.specs.Resolving.{◌>>=◌}
 use Rattle.ir_names.specs.Types.{Types}
 use Rattle.ir_names.specs.Variables.{variable_in}
 

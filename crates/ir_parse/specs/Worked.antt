@@ -13,13 +13,13 @@
 -- The first block and the phi have no name, so `%0` and `%1` stand for them.
 use Rattle.std.specs.Prelude.{ℕ, true, false, List, [], ◌∷◌, Some, None, codes}
 use Rattle.ir_lex.specs.Tok.{Tok}
-use Rattle.ir_lex.specs.declared.head.Head.{Head}
-use Rattle.ir_lex.specs.declared.head.Head.TheVariants as classes
-use Rattle.ir_lex.specs.declared.token.Kind.{Kind}
-use Rattle.ir_lex.specs.declared.token.Kind.TheVariants as kinds
+use Rattle.ir_lex.specs.declared.token_kind.TokenKind.{TokenKind}
+use Rattle.ir_lex.specs.declared.token_kind.TokenKind.TheVariants as classes
+use Rattle.ir_lex.specs.declared.token.TokenForm.{TokenForm}
+use Rattle.ir_lex.specs.declared.token.TokenForm.TheVariants as forms
 use Rattle.ir_read.specs.Shapes as written
 use Rattle.ir_read.specs.declared.raw.Block as raw_block
-use Rattle.ir_read.specs.declared.raw.Head as raw_head
+use Rattle.ir_read.specs.declared.raw.FunctionHeader as raw_head
 use Rattle.ir_read.specs.declared.raw.Incoming.{Incoming}
 use Rattle.ir_read.specs.declared.raw.Instr.TheVariants as raw_kind
 use Rattle.ir_read.specs.declared.raw.Operand.TheVariants as raw_operand
@@ -34,20 +34,20 @@ use Rattle.ir_tree.specs.declared.instr.Instr.TheVariants as kind
 use Rattle.ir_tree.specs.declared.operand.Operand.TheVariants.{Local, Number}
 use Rattle.ir_tree.specs.declared.operand.Reg.TheVariants.{Int}
 
-abbrev token : Kind → Head → List ℕ → Tok
-token kind head text = record { kind = kind; text = text; line = 1; head = head; ends_line = false }
+abbrev token : TokenForm → TokenKind → List ℕ → Tok
+token kind head text = record { form = kind; text = text; line = 1; kind = head; ends_line = false }
 
 abbrev local : List ℕ → Tok
-local text = token kinds.Local classes.Local text
+local text = token forms.Local classes.Local text
 
 abbrev nsw : Flags
 nsw = record { nuw = false; nsw = true; exact = false }
 
-abbrev pub worked_head : raw_head.Head
+abbrev pub worked_head : raw_head.FunctionHeader
 worked_head = record {
   linkage = External;
   result = Some (Int 32);
-  name = token kinds.Global classes.Global (codes "@f");
+  name = token forms.Global classes.Global (codes "@f");
   params = record { reg = Int 32; name = Some (local (codes "%x")) } ∷ [];
   noinline = false;
   optnone = false;
@@ -67,7 +67,7 @@ entries = record { value = raw_operand.Local (local (codes "%y")); from = local 
 
 abbrev pub second : raw_block.Block
 second = record {
-  label = Some (token kinds.Label classes.Label (codes "next:"));
+  label = Some (token forms.Label classes.Label (codes "next:"));
   lines =
       record { name = None; instr = raw_kind.Phi (Int 32) entries; line = 5 }
       ∷ record { name = Some (local (codes "%p")); instr = raw_kind.Alloca (record { shape = written.array 4 (written.int 32); line = 6 }) 1 None; line = 6 }

@@ -6,7 +6,7 @@ use Rattle.ir_read.specs.Shapes.{Written, WrittenParts, int, pointer, array, str
 use Rattle.ir_read.specs.declared.raw.Argument.{Argument}
 use Rattle.ir_read.specs.declared.raw.Block.{Block}
 use Rattle.ir_read.specs.declared.raw.Case.{Case}
-use Rattle.ir_read.specs.declared.raw.Head.{Head}
+use Rattle.ir_read.specs.declared.raw.FunctionHeader.{FunctionHeader}
 use Rattle.ir_read.specs.declared.raw.Init.{Init}
 use Rattle.ir_read.specs.declared.raw.InitHead.{InitHead}
 use Rattle.ir_read.specs.declared.raw.InitHead.TheVariants as heads
@@ -14,7 +14,7 @@ use Rattle.ir_read.specs.declared.raw.InitPart.{InitPart}
 use Rattle.ir_read.specs.declared.raw.InitPart.TheVariants as init
 use Rattle.ir_read.specs.declared.raw.Instr.{Instr}
 use Rattle.ir_read.specs.declared.raw.Instr.TheVariants as kind
-use Rattle.ir_read.specs.declared.raw.Line.{Line}
+use Rattle.ir_read.specs.declared.raw.WrittenLine.{WrittenLine}
 use Rattle.ir_read.specs.declared.raw.Operand.{Operand}
 use Rattle.ir_read.specs.declared.raw.Operand.TheVariants as operand
 use Rattle.ir_read.specs.declared.raw.Terminator.{Terminator}
@@ -83,7 +83,7 @@ abbrev pub NameWritten : Instr → Option Tok → Type 0
 NameWritten (kind.Store reg value address align) name = name ≡ None
 NameWritten _ name = Unit {0}
 
-abbrev pub LineWritten : Line → Type 0
+abbrev pub LineWritten : WrittenLine → Type 0
 LineWritten l = InstrWritten l.instr × NameWritten l.instr l.name
 
 -- ---- blocks
@@ -103,10 +103,10 @@ BlockWritten b = All LineWritten b.lines × EndWritten b.end
 -- ---- functions
 
 -- a declaration is external and keeps no attributes
-abbrev pub DeclarationWritten : Head → Bool → Bool → Type 0
+abbrev pub DeclarationWritten : FunctionHeader → Bool → Bool → Type 0
 DeclarationWritten head noinline optnone = (head.linkage ≡ External) × (noinline ≡ false) × (optnone ≡ false)
 
-pub record IsWritten (head : Head) (body : List Block) (noinline optnone : Bool) : Type 0 where
+pub record IsWritten (head : FunctionHeader) (body : List Block) (noinline optnone : Bool) : Type 0 where
   pub result : IsResult head.result
   pub params : All (λ p. IsReg p.reg) head.params
   pub blocks : All BlockWritten body

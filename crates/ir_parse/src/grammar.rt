@@ -1,7 +1,7 @@
 //! The items of a text that is in the grammar, or the first place at which no reading goes on.
 ghost use Rattle.std.specs.Prelude.{◌≡◌, ◌-◌, [], IfOk, IfErr, OnOk, true, drop, length};
 ghost use Rattle.ir_lex.specs.Tok.{tok, toks};
-ghost use Rattle.ir_read.specs.Readers.{Gives};
+ghost use Rattle.ir_read.specs.Readers.{Returns};
 ghost use Rattle.ir_parse.specs.Modules.{whole_module, module_of, last_tokens};
 ghost use Rattle.ir_tree.specs.Failures.{IfFault};
 ghost use Rattle.ir_parse.specs.Answers.{IsStopped};
@@ -11,8 +11,8 @@ ghost use Rattle.ir_parse.specs.Kinds.{refused_kind, grammar_fault};
 use crate::fault::{ReadError, ReadFault};
 use crate::items::items_into;
 use ir_heads::name_refusal;
-use ir_lex::{Head, Lexed, Token};
-use ir_read::{Fault as Refusal, Item, ReadError as GrammarError, TokenFault, Tokens};
+use ir_lex::{Lexed, Token, TokenKind};
+use ir_read::{Fault as Refusal, Item, ReaderError, TokenFault, Tokens};
 use ir_tree::{FaultKind, Text};
 use std::alloc::{AllocError, Global};
 
@@ -24,18 +24,18 @@ const GLOBAL_NAMES: usize = 65535;
 
 /// Reads these tokens as items, into an empty list.
 #[tactic(auto, unfolding(crate::specs::Modules::module_of, crate::specs::Modules::FURTHER_PARAMETERS, crate::specs::Modules::GLOBAL_NAMES))]
-fn items_of(alloc: Global, all: &[Token], items: &mut Vec<Item>) -> Result<(), GrammarError>
+fn items_of(alloc: Global, all: &[Token], items: &mut Vec<Item>) -> Result<(), ReaderError>
     requires { items.now.items ≡ [] }
-    ensures { Gives (λ x. items.new.items) result (module_of (toks all.now)) }
+    ensures { Returns (λ x. items.new.items) result (module_of (toks all.now)) }
 {
     let mut rest = Tokens::new(all);
     items_into(alloc, FURTHER_PARAMETERS, GLOBAL_NAMES, items, &mut rest)?;
     let left = rest.left();
     match rest.take() {
         None => Ok(()),
-        Some(t) => Err(GrammarError::Fault(Refusal {
+        Some(t) => Err(ReaderError::Fault(Refusal {
             left,
-            kind: name_refusal(t.head),
+            kind: name_refusal(t.kind),
         })),
     }
 }
@@ -44,7 +44,7 @@ fn items_of(alloc: Global, all: &[Token], items: &mut Vec<Item>) -> Result<(), G
 fn refused_kind(alloc: Global, t: &Token) -> Result<FaultKind, AllocError>
     ensures { IfOk result (λ k. k ≡ refused_kind (tok t.now)) }
 {
-    if t.head.is(Head::Str) {
+    if t.kind.is(TokenKind::Str) {
         Ok(FaultKind::Layout)
     } else {
         let word = Text::copied(alloc, t.text)?;
@@ -121,8 +121,8 @@ pub(crate) fn items_in<'a>(
                 Err(ReadError::Fault(fault_behind(lexed)))
             }
         }
-        Err(GrammarError::NoMemory) => Err(ReadError::NoMemory),
-        Err(GrammarError::Fault(refusal)) => {
+        Err(ReaderError::NoMemory) => Err(ReadError::NoMemory),
+        Err(ReaderError::Fault(refusal)) => {
             let fault = fault_of(alloc, lexed, refusal)?;
             Err(ReadError::Fault(fault))
         }

@@ -1,10 +1,10 @@
 //! Reads the items of a module one behind another (LangRef, "Module Structure").
 
 ghost use Rattle.std.specs.Prelude.{◌≡◌, ◌∷◌, ◌++◌, [], OnOk, IfErr, None};
-ghost use Rattle.ir_lex.specs.Heads.{number};
+ghost use Rattle.ir_lex.specs.TokenKinds.{number};
 ghost use Rattle.ir_read.specs.Alphabet.{contains, among};
 ghost use Rattle.ir_tree.specs.declared.failure.Failure.TheVariants.{NoMemory};
-ghost use Rattle.ir_read.specs.Readers.{Gives, next_is};
+ghost use Rattle.ir_read.specs.Readers.{Returns, next_is};
 ghost use Rattle.ir_heads.specs.AttributesAt.{HEAD, attribute_group_at};
 ghost use Rattle.ir_heads.specs.TargetsAt.{layout_line_at, target_line_at, triple_line_at};
 ghost use Rattle.ir_read.specs.Classes.{tokens};
@@ -22,10 +22,10 @@ use ir_globals::{
 use ir_heads::{
     Role, comdat_line_at, head_at, head_attribute_at, is_attribute_word, source_line_at,
 };
-use ir_lex::Head;
+use ir_lex::TokenKind;
 use ir_operands::push;
 use ir_read::{
-    Before, Fault, Item, Position, ReadError, TokenFault, Tokens, attached_at, expect,
+    Before, Fault, Item, Position, ReaderError, TokenFault, Tokens, attached_at, expect,
     metadata_behind_at, metadata_line_at, node_yet_at,
 };
 use std::alloc::Global;
@@ -36,8 +36,8 @@ fn layout_into(
     alloc: Global,
     items: &mut Vec<Item>,
     tokens: &mut Tokens,
-) -> Result<Before, ReadError>
-    ensures { Gives (λ b. ((items.new.items, b), tokens.new)) result (behind_at items.old.items (kept_at layout_line_at) tokens.old) }
+) -> Result<Before, ReaderError>
+    ensures { Returns (λ b. ((items.new.items, b), tokens.new)) result (behind_at items.old.items (kept_at layout_line_at) tokens.old) }
 {
     layout_line_into(alloc, items, tokens)?;
     Ok(Before::Item)
@@ -49,8 +49,8 @@ fn triple_into(
     alloc: Global,
     items: &mut Vec<Item>,
     tokens: &mut Tokens,
-) -> Result<Before, ReadError>
-    ensures { Gives (λ b. ((items.new.items, b), tokens.new)) result (behind_at items.old.items (kept_at triple_line_at) tokens.old) }
+) -> Result<Before, ReaderError>
+    ensures { Returns (λ b. ((items.new.items, b), tokens.new)) result (behind_at items.old.items (kept_at triple_line_at) tokens.old) }
 {
     triple_line_into(alloc, items, tokens)?;
     Ok(Before::Item)
@@ -62,11 +62,11 @@ fn target_into(
     alloc: Global,
     items: &mut Vec<Item>,
     tokens: &mut Tokens,
-) -> Result<Before, ReadError>
-    ensures { Gives (λ b. ((items.new.items, b), tokens.new)) result (behind_at items.old.items (kept_at target_line_at) tokens.old) }
+) -> Result<Before, ReaderError>
+    ensures { Returns (λ b. ((items.new.items, b), tokens.new)) result (behind_at items.old.items (kept_at target_line_at) tokens.old) }
 {
-    expect(Head::Target, tokens)?;
-    if tokens.comes(Head::Datalayout) {
+    expect(TokenKind::Target, tokens)?;
+    if tokens.comes(TokenKind::Datalayout) {
         layout_into(alloc, items, tokens)
     } else {
         triple_into(alloc, items, tokens)
@@ -75,8 +75,12 @@ fn target_into(
 
 /// Reads the definition of a type, and adds it.
 #[tactic(auto, unfolding(crate::specs::Putting::behind_at, crate::specs::ItemFormsAt::kept_at))]
-fn type_into(alloc: Global, items: &mut Vec<Item>, tokens: &mut Tokens) -> Result<Before, ReadError>
-    ensures { Gives (λ b. ((items.new.items, b), tokens.new)) result (behind_at items.old.items (kept_at type_line_at) tokens.old) }
+fn type_into(
+    alloc: Global,
+    items: &mut Vec<Item>,
+    tokens: &mut Tokens,
+) -> Result<Before, ReaderError>
+    ensures { Returns (λ b. ((items.new.items, b), tokens.new)) result (behind_at items.old.items (kept_at type_line_at) tokens.old) }
 {
     type_line_into(alloc, items, tokens)?;
     Ok(Before::Item)
@@ -88,8 +92,8 @@ fn group_into(
     alloc: Global,
     items: &mut Vec<Item>,
     tokens: &mut Tokens,
-) -> Result<Before, ReadError>
-    ensures { Gives (λ b. ((items.new.items, b), tokens.new)) result (behind_at items.old.items (kept_at attribute_group_at) tokens.old) }
+) -> Result<Before, ReaderError>
+    ensures { Returns (λ b. ((items.new.items, b), tokens.new)) result (behind_at items.old.items (kept_at attribute_group_at) tokens.old) }
 {
     attribute_group_into(alloc, items, tokens)?;
     Ok(Before::Item)
@@ -101,8 +105,8 @@ fn variable_into(
     alloc: Global,
     items: &mut Vec<Item>,
     tokens: &mut Tokens,
-) -> Result<Before, ReadError>
-    ensures { Gives (λ b. ((items.new.items, b), tokens.new)) result (behind_at items.old.items (kept_at variable_line_at) tokens.old) }
+) -> Result<Before, ReaderError>
+    ensures { Returns (λ b. ((items.new.items, b), tokens.new)) result (behind_at items.old.items (kept_at variable_line_at) tokens.old) }
 {
     variable_line_into(alloc, items, tokens)?;
     Ok(Before::Item)
@@ -115,8 +119,8 @@ fn definition_into(
     room: usize,
     items: &mut Vec<Item>,
     tokens: &mut Tokens,
-) -> Result<Before, ReadError>
-    ensures { Gives (λ b. ((items.new.items, b), tokens.new)) result (behind_at items.old.items (kept_at (definition_at room)) tokens.old) }
+) -> Result<Before, ReaderError>
+    ensures { Returns (λ b. ((items.new.items, b), tokens.new)) result (behind_at items.old.items (kept_at (definition_at room)) tokens.old) }
 {
     ir_bodies::definition_into(alloc, room, items, tokens)?;
     Ok(Before::Item)
@@ -129,18 +133,18 @@ fn unnamed_at(
     alloc: Global,
     items: &mut Vec<Item>,
     tokens: &mut Tokens,
-) -> Result<Before, ReadError>
-    ensures { Gives (λ b. ((items.new.items, b), tokens.new)) result (behind_at items.old.items unnamed_at tokens.old) }
+) -> Result<Before, ReaderError>
+    ensures { Returns (λ b. ((items.new.items, b), tokens.new)) result (behind_at items.old.items unnamed_at tokens.old) }
 {
-    if tokens.comes(Head::SourceFilename) {
+    if tokens.comes(TokenKind::SourceFilename) {
         source_line_at(tokens)?;
         Ok(Before::Item)
-    } else if tokens.comes(Head::Target) {
+    } else if tokens.comes(TokenKind::Target) {
         target_into(alloc, items, tokens)
-    } else if tokens.comes(Head::ComdatName) {
+    } else if tokens.comes(TokenKind::ComdatName) {
         comdat_line_at(tokens)?;
         Ok(Before::Item)
-    } else if tokens.comes(Head::Local) {
+    } else if tokens.comes(TokenKind::Local) {
         type_into(alloc, items, tokens)
     } else {
         group_into(alloc, items, tokens)
@@ -148,25 +152,28 @@ fn unnamed_at(
 }
 
 #[tactic(auto, unfolding(crate::specs::ItemFormsAt::attribute_behind_at))]
-fn attribute_behind_at(alloc: Global, tokens: &mut Tokens) -> Result<Before, ReadError>
-    ensures { Gives (λ b. ((None, b), tokens.new)) result (attribute_behind_at tokens.old) }
+fn attribute_behind_at(alloc: Global, tokens: &mut Tokens) -> Result<Before, ReaderError>
+    ensures { Returns (λ b. ((None, b), tokens.new)) result (attribute_behind_at tokens.old) }
 {
     head_attribute_at(alloc, tokens)?;
     Ok(Before::Declaration)
 }
 
-/// Whether a token of this class begins an attribute behind the head of a declaration.
-fn begins_head_attribute(head: Head) -> bool
+/// Whether a token of this kind begins an attribute behind the head of a declaration.
+fn begins_head_attribute(head: TokenKind) -> bool
     ensures { result ≡ contains HEAD (number head) }
 {
-    head.is(Head::Group) || head.is(Head::Align) || head.is(Head::Str) || is_attribute_word(head)
+    head.is(TokenKind::Group)
+        || head.is(TokenKind::Align)
+        || head.is(TokenKind::Str)
+        || is_attribute_word(head)
 }
 
 /// Whether an attribute comes that may stand behind the head of a declaration.
 fn comes_head_attribute(rest: &Tokens) -> bool
     ensures { result ≡ next_is (among tokens HEAD) rest.now }
 {
-    match rest.head() {
+    match rest.kind() {
         Some(head) => begins_head_attribute(head),
         None => false,
     }
@@ -178,8 +185,8 @@ fn metadata_there_at(
     alloc: Global,
     before: Before,
     tokens: &mut Tokens,
-) -> Result<Before, ReadError>
-    ensures { Gives (λ b. ((None, b), tokens.new)) result (metadata_there_at before tokens.old) }
+) -> Result<Before, ReaderError>
+    ensures { Returns (λ b. ((None, b), tokens.new)) result (metadata_there_at before tokens.old) }
 {
     match before {
         Before::Item => {
@@ -199,8 +206,8 @@ fn plainly_at(
     before: Before,
     items: &mut Vec<Item>,
     tokens: &mut Tokens,
-) -> Result<Before, ReadError>
-    ensures { Gives (λ b. ((items.new.items, b), tokens.new)) result (behind_at items.old.items (plainly_at before) tokens.old) }
+) -> Result<Before, ReaderError>
+    ensures { Returns (λ b. ((items.new.items, b), tokens.new)) result (behind_at items.old.items (plainly_at before) tokens.old) }
 {
     match before {
         Before::Item => unnamed_at(alloc, items, tokens),
@@ -222,8 +229,8 @@ fn beside_at(
     before: Before,
     items: &mut Vec<Item>,
     tokens: &mut Tokens,
-) -> Result<Before, ReadError>
-    ensures { Gives (λ b. ((items.new.items, b), tokens.new)) result (behind_at items.old.items (beside_at before) tokens.old) }
+) -> Result<Before, ReaderError>
+    ensures { Returns (λ b. ((items.new.items, b), tokens.new)) result (behind_at items.old.items (beside_at before) tokens.old) }
 {
     if tokens.comes_meta() {
         Ok(metadata_there_at(alloc, before, tokens)?)
@@ -234,8 +241,8 @@ fn beside_at(
 
 /// Reads metadata that stands before the head of a declaration, and drops it.
 #[tactic(auto, unfolding(crate::specs::ItemFormsAt::attached_before_at))]
-fn attached_before_at(alloc: Global, tokens: &mut Tokens) -> Result<(), ReadError>
-    ensures { Gives (λ x. (tt, tokens.new)) result (attached_before_at tokens.old) }
+fn attached_before_at(alloc: Global, tokens: &mut Tokens) -> Result<(), ReaderError>
+    ensures { Returns (λ x. (tt, tokens.new)) result (attached_before_at tokens.old) }
 {
     'each: while tokens.comes_meta() {
         attached_at(alloc, tokens)?;
@@ -244,11 +251,11 @@ fn attached_before_at(alloc: Global, tokens: &mut Tokens) -> Result<(), ReadErro
 }
 
 /// Adds what a head declares; a lifetime marker isn't kept.
-fn push_declared(items: &mut Vec<Item>, head: ir_read::Head) -> Result<(), ReadError>
+fn push_declared(items: &mut Vec<Item>, head: ir_read::FunctionHeader) -> Result<(), ReaderError>
     ensures pushed { OnOk result (items.new.items ≡ keep items.old.items (declared head)) }
     ensures memory { IfErr result (λ e. e ≡ NoMemory) }
 {
-    if head.name.token().head.is(Head::LifetimeMarker) {
+    if head.name.token().kind.is(TokenKind::LifetimeMarker) {
         Ok(())
     } else {
         push(items, Item::Declaration(head))
@@ -262,40 +269,40 @@ fn declaration_at(
     room: usize,
     items: &mut Vec<Item>,
     tokens: &mut Tokens,
-) -> Result<Before, ReadError>
-    ensures { Gives (λ b. ((items.new.items, b), tokens.new)) result (behind_at items.old.items (declaration_at room) tokens.old) }
+) -> Result<Before, ReaderError>
+    ensures { Returns (λ b. ((items.new.items, b), tokens.new)) result (behind_at items.old.items (declaration_at room) tokens.old) }
 {
-    expect(Head::Declare, tokens)?;
+    expect(TokenKind::Declare, tokens)?;
     attached_before_at(alloc, tokens)?;
     let head = head_at(alloc, Role::Declaration, room, tokens)?;
     push_declared(items, head)?;
     Ok(Before::Declaration)
 }
 
-/// Whether a token of this class names a variable.
-fn begins_variable(head: Head) -> bool
+/// Whether a token of this kind names a variable.
+fn begins_variable(head: TokenKind) -> bool
     ensures { result ≡ contains NAMES (number head) }
 {
-    matches!(head, Head::Global | Head::NumberedDefinition)
+    matches!(head, TokenKind::Global | TokenKind::NumberedDefinition)
 }
 
 /// Whether a variable comes.
 fn comes_variable(rest: &Tokens) -> bool
     ensures { result ≡ next_is (among tokens NAMES) rest.now }
 {
-    match rest.head() {
+    match rest.kind() {
         Some(head) => begins_variable(head),
         None => false,
     }
 }
 
-/// Whether a token of this class begins an item that defines or declares a global name.
-fn begins_naming(head: Head) -> bool
+/// Whether a token of this kind begins an item that defines or declares a global name.
+fn begins_naming(head: TokenKind) -> bool
     ensures { result ≡ contains NAMING (number head) }
 {
     matches!(
         head,
-        Head::Global | Head::NumberedDefinition | Head::Declare | Head::Define
+        TokenKind::Global | TokenKind::NumberedDefinition | TokenKind::Declare | TokenKind::Define
     )
 }
 
@@ -303,7 +310,7 @@ fn begins_naming(head: Head) -> bool
 fn comes_naming(rest: &Tokens) -> bool
     ensures { result ≡ next_is (among tokens NAMING) rest.now }
 {
-    match rest.head() {
+    match rest.kind() {
         Some(head) => begins_naming(head),
         None => false,
     }
@@ -316,12 +323,12 @@ fn naming_at(
     room: usize,
     items: &mut Vec<Item>,
     tokens: &mut Tokens,
-) -> Result<Before, ReadError>
-    ensures { Gives (λ b. ((items.new.items, b), tokens.new)) result (behind_at items.old.items (naming_at room) tokens.old) }
+) -> Result<Before, ReaderError>
+    ensures { Returns (λ b. ((items.new.items, b), tokens.new)) result (behind_at items.old.items (naming_at room) tokens.old) }
 {
     if comes_variable(tokens) {
         variable_into(alloc, items, tokens)
-    } else if tokens.comes(Head::Declare) {
+    } else if tokens.comes(TokenKind::Declare) {
         declaration_at(alloc, room, items, tokens)
     } else {
         definition_into(alloc, room, items, tokens)
@@ -334,11 +341,11 @@ fn named_at(
     names: usize,
     items: &mut Vec<Item>,
     tokens: &mut Tokens,
-) -> Result<Position, ReadError>
-    ensures { Gives (λ at. ((items.new.items, at), tokens.new)) result (behind_at items.old.items (named_within_at room names) tokens.old) }
+) -> Result<Position, ReaderError>
+    ensures { Returns (λ at. ((items.new.items, at), tokens.new)) result (behind_at items.old.items (named_within_at room names) tokens.old) }
 {
     if names == 0 {
-        return Err(ReadError::Fault(Fault {
+        return Err(ReaderError::Fault(Fault {
             left: tokens.left(),
             kind: TokenFault::Limit,
         }));
@@ -357,8 +364,8 @@ fn piece_at(
     at: Position,
     items: &mut Vec<Item>,
     tokens: &mut Tokens,
-) -> Result<Position, ReadError>
-    ensures { Gives (λ next. ((items.new.items, next), tokens.new)) result (behind_at items.old.items (there_at room at) tokens.old) }
+) -> Result<Position, ReaderError>
+    ensures { Returns (λ next. ((items.new.items, next), tokens.new)) result (behind_at items.old.items (there_at room at) tokens.old) }
 {
     if comes_naming(tokens) {
         named_at(alloc, room, at.names, items, tokens)
@@ -371,27 +378,27 @@ fn piece_at(
     }
 }
 
-/// Whether a token of this class begins an item.
-fn begins_item(head: Head) -> bool
+/// Whether a token of this kind begins an item.
+fn begins_item(head: TokenKind) -> bool
     ensures { result ≡ contains ITEM (number head) }
 {
     matches!(
         head,
-        Head::Meta
-            | Head::Bang
-            | Head::SourceFilename
-            | Head::Target
-            | Head::ComdatName
-            | Head::Local
-            | Head::Attributes
-            | Head::Global
-            | Head::NumberedDefinition
-            | Head::Declare
-            | Head::Define
+        TokenKind::Meta
+            | TokenKind::Bang
+            | TokenKind::SourceFilename
+            | TokenKind::Target
+            | TokenKind::ComdatName
+            | TokenKind::Local
+            | TokenKind::Attributes
+            | TokenKind::Global
+            | TokenKind::NumberedDefinition
+            | TokenKind::Declare
+            | TokenKind::Define
     )
 }
 
-fn begins_there(before: Before, head: Head) -> bool
+fn begins_there(before: Before, head: TokenKind) -> bool
     ensures { result ≡ contains (beginnings before) (number head) }
 {
     match before {
@@ -405,7 +412,7 @@ fn begins_there(before: Before, head: Head) -> bool
 fn comes_there(before: Before, rest: &Tokens) -> bool
     ensures { result ≡ next_is (among tokens (beginnings before)) rest.now }
 {
-    match rest.head() {
+    match rest.kind() {
         Some(head) => begins_there(before, head),
         None => false,
     }
@@ -419,9 +426,9 @@ pub(crate) fn items_into(
     names: usize,
     items: &mut Vec<Item>,
     tokens: &mut Tokens,
-) -> Result<(), ReadError>
+) -> Result<(), ReaderError>
     requires { items.now.items ≡ [] }
-    ensures { Gives (λ x. (items.new.items, tokens.new)) result (items_at room names tokens.old) }
+    ensures { Returns (λ x. (items.new.items, tokens.new)) result (items_at room names tokens.old) }
 {
     let mut at = Position {
         before: Before::Item,

@@ -7,7 +7,7 @@
 //! operands and its arguments. The laws are functions whose contracts state them; nothing here runs.
 ghost use Rattle.ir_parse.specs.Spelled.{ArgumentsAreWritten, FrontIsSized, ItemsAreWritten, OperandsAreWritten, ShapesAreWritten, TokensAreSized, TypesAreWritten};
 
-/// The tokens of any text: one of the class of integers in memory is `i8`, `i16`, `i32` or `i64`
+/// The tokens of any text: one of the kind of integers in memory is `i8`, `i16`, `i32` or `i64`
 /// (LangRef, "Integer Type").
 pub fn tokens_are_sized()
     ensures { TokensAreSized }

@@ -2,7 +2,7 @@
 ghost use Rattle.std.specs.Prelude.{◌≡◌};
 ghost use Rattle.ir_names.specs.Groups.{groups_of};
 ghost use Rattle.ir_names.specs.Marks.{marks_of};
-ghost use Rattle.ir_names.specs.Settled.{Settles};
+ghost use Rattle.ir_names.specs.Resolving.{ResolvesTo};
 ghost use Rattle.ir_parse.specs.Stages.{module_behind, module_in, module_with};
 ghost use Rattle.ir_parse.specs.Values.{values_in};
 
@@ -20,7 +20,7 @@ fn values_of<'t>(
     alloc: Global,
     types: &Types<'t>,
 ) -> Result<Rows<GlobalValue>, ResolveError>
-    ensures { Settles (λ vs. vs) result (values_in types.now (groups_of items.now) items.now) }
+    ensures { ResolvesTo (λ vs. vs) result (values_in types.now (groups_of items.now) items.now) }
 {
     let groups = groups_of(alloc, items)?;
     values_in(items, alloc, types, &groups)
@@ -34,7 +34,7 @@ fn module_with<'t>(
     alloc: Global,
     types: &Types<'t>,
 ) -> Result<Module, ResolveError>
-    ensures { Settles (λ m. m) result (module_with types.now items.now) }
+    ensures { ResolvesTo (λ m. m) result (module_with types.now items.now) }
 {
     let globals = values_of(items, alloc, types)?;
     let datalayout = datalayout_of(alloc, items)?;
@@ -55,7 +55,7 @@ fn module_behind<'t>(
     types: &Types<'t>,
 ) -> Result<Module, ResolveError>
     requires { marks.now ≡ marks_of items.now }
-    ensures { Settles (λ m. m) result (module_behind types.now items.now) }
+    ensures { ResolvesTo (λ m. m) result (module_behind types.now items.now) }
 {
     shapes_within(items, alloc, types)?;
     globals_in(alloc, marks)?;
@@ -66,7 +66,7 @@ fn module_behind<'t>(
 /// order over the whole text, and then its functions one by one.
 #[tactic(auto, unfolding(crate::specs::Stages::module_in))]
 pub fn module_in<'t>(items: &'t [Item], alloc: Global) -> Result<Module, ResolveError>
-    ensures { Settles (λ m. m) result (module_in items.now) }
+    ensures { ResolvesTo (λ m. m) result (module_in items.now) }
 {
     let mut marks = Marks::new(alloc);
     gather(items, &mut marks)?;

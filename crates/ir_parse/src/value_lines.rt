@@ -3,12 +3,12 @@ ghost use Rattle.std.specs.Prelude.{◌≡◌, ◌++◌, IfOk, OnOk, flat_map, m
 ghost use Rattle.ir_parse.specs.Lines.{block_lines, item_lines};
 ghost use Rattle.ir_parse.specs.Lines as definitions;
 
-use ir_read::{Block, Item, Line};
+use ir_read::{Block, Item, WrittenLine};
 use ir_tree::Rows;
 use std::alloc::{AllocError, Global};
 
 /// The lines of these at the end of those.
-fn push_lines(lines: &mut Rows<u32>, written: &[Line]) -> Result<(), AllocError>
+fn push_lines(lines: &mut Rows<u32>, written: &[WrittenLine]) -> Result<(), AllocError>
     ensures { OnOk result (lines.new ≡ lines.old ++ map (λ l. l.line) written.now) }
 {
     'each: for line in written {

@@ -1,12 +1,12 @@
 //! The global values of a module in the order of the text (LangRef, "Global Variables" and "Functions").
 ghost use Rattle.std.specs.Prelude.{◌≡◌};
 ghost use Rattle.ir_names.specs.Groups.{no_groups};
-ghost use Rattle.ir_names.specs.Settled.{Settles};
+ghost use Rattle.ir_names.specs.Resolving.{ResolvesTo};
 ghost use Rattle.ir_parse.specs.Values.{value_in, values_in};
 ghost use Rattle.ir_read.specs.declared.raw.Item.TheVariants as items;
 
 use ir_names::{Groups, ResolveError, Types, is_noinline, is_optnone};
-use ir_read::{Block, Head, Item, Variable};
+use ir_read::{Block, FunctionHeader, Item, Variable};
 use ir_tree::{GlobalValue, Rows};
 use named_values::{declaration_in, function_in, variable_in};
 use std::alloc::Global;
@@ -17,7 +17,7 @@ fn variable_value<'t>(
     alloc: Global,
     types: &Types<'t>,
 ) -> Result<Option<GlobalValue>, ResolveError>
-    ensures { Settles (λ v. v) result (value_in types.now no_groups (items.Variable variable.now)) }
+    ensures { ResolvesTo (λ v. v) result (value_in types.now no_groups (items.Variable variable.now)) }
 {
     let made = variable_in(alloc, types, variable)?;
     Ok(Some(GlobalValue::Variable(made)))
@@ -25,11 +25,11 @@ fn variable_value<'t>(
 
 /// The global value that a declaration is.
 fn declared_value<'t>(
-    head: &'t Head,
+    head: &'t FunctionHeader,
     alloc: Global,
     types: &Types<'t>,
 ) -> Result<Option<GlobalValue>, ResolveError>
-    ensures { Settles (λ v. v) result (value_in types.now no_groups (items.Declaration head.now)) }
+    ensures { ResolvesTo (λ v. v) result (value_in types.now no_groups (items.Declaration head.now)) }
 {
     let made = declaration_in(alloc, types, head)?;
     Ok(Some(GlobalValue::Function(made)))
@@ -38,12 +38,12 @@ fn declared_value<'t>(
 /// The global value that a definition is, with the attributes that its head and its groups say.
 fn defined_value<'t>(
     blocks: &'t [Block],
-    head: &'t Head,
+    head: &'t FunctionHeader,
     alloc: Global,
     types: &Types<'t>,
     groups: &Groups<'t>,
 ) -> Result<Option<GlobalValue>, ResolveError>
-    ensures { Settles (λ v. v) result (value_in types.now groups.now (items.Definition head.now blocks.now)) }
+    ensures { ResolvesTo (λ v. v) result (value_in types.now groups.now (items.Definition head.now blocks.now)) }
 {
     let noinline = is_noinline(groups, head);
     let optnone = is_optnone(groups, head);
@@ -58,7 +58,7 @@ fn value_in<'t>(
     types: &Types<'t>,
     groups: &Groups<'t>,
 ) -> Result<Option<GlobalValue>, ResolveError>
-    ensures { Settles (λ v. v) result (value_in types.now groups.now item.now) }
+    ensures { ResolvesTo (λ v. v) result (value_in types.now groups.now item.now) }
 {
     match item {
         Item::Variable(variable) => variable_value(variable, alloc, types),
@@ -80,7 +80,7 @@ pub fn values_in<'t>(
     types: &Types<'t>,
     groups: &Groups<'t>,
 ) -> Result<Rows<GlobalValue>, ResolveError>
-    ensures { Settles (λ vs. vs) result (values_in types.now groups.now items.now) }
+    ensures { ResolvesTo (λ vs. vs) result (values_in types.now groups.now items.now) }
 {
     let mut values = Rows::new(alloc);
     'each: for item in items {

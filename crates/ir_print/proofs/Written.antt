@@ -6,8 +6,8 @@ use Rattle.std.proofs.lemmas.List.{append-nil, drop_all}
 use Rattle.std.proofs.Math.Pow.{pow_mono}
 use Rattle.std.specs.Prelude.{codes, decimal, IfOk, Result, Ok, Err}
 use Rattle.ir_lex.specs.Pieces.{Piece, bytes_of}
-use Rattle.ir_lex.specs.declared.token.Kind.{Kind}
-use Rattle.ir_lex.specs.declared.token.Kind.TheVariants as kinds
+use Rattle.ir_lex.specs.declared.token.TokenForm.{TokenForm}
+use Rattle.ir_lex.specs.declared.token.TokenForm.TheVariants as forms
 use Rattle.ir_tree.specs.Forms.{Form, int, pointer, array, structure}
 use Rattle.ir_tree.specs.declared.operand.Reg.{Reg}
 use Rattle.ir_tree.specs.declared.operand.Reg.TheVariants.{Int, Ptr}
@@ -60,11 +60,11 @@ ends ps a b e = record { is = sym (append-nil b) ∙ e }
 pub wrote_one : (p : Piece) (a b : List ℕ) → b ≡ (a ++ p.blank) ++ (p.first ∷ p.others) → Wrote (p ∷ []) a b
 wrote_one p a b e = record { is = e ∙ append_assoc a p.blank (p.first ∷ p.others) ∙ ap (λ (x : List ℕ). a ++ (p.blank ++ (p.first ∷ x))) (sym (append-nil p.others)) }
 
-pub wrote_piece : (blank text : List ℕ) (kind : Kind) (a b : List ℕ) → 0 < length text → b ≡ (a ++ blank) ++ text → Wrote (piece blank kind text) a b
+pub wrote_piece : (blank text : List ℕ) (kind : TokenForm) (a b : List ℕ) → 0 < length text → b ≡ (a ++ blank) ++ text → Wrote (piece blank kind text) a b
 wrote_piece blank [] kind a b h e = absurd (omega arith)
 wrote_piece blank (c ∷ cs) kind a b h e = record { is = e ∙ append_assoc a blank (c ∷ cs) ∙ ap (λ (x : List ℕ). a ++ (blank ++ (c ∷ x))) (sym (append-nil cs)) }
 
-pub wrote_natural : (blank : List ℕ) (n : ℕ) (kind : Kind) (a b : List ℕ) → n < 2 ^ 64 → b ≡ (a ++ blank) ++ decimal n → Wrote (piece blank kind (decimal n)) a b
+pub wrote_natural : (blank : List ℕ) (n : ℕ) (kind : TokenForm) (a b : List ℕ) → n < 2 ^ 64 → b ≡ (a ++ blank) ++ decimal n → Wrote (piece blank kind (decimal n)) a b
 wrote_natural blank n kind a b h e = wrote_piece blank (decimal n) kind a b (decimal_nonempty n h) e
 
 pub some_digits : (w bits : ℕ) → bits < 2 ^ 64 → 0 < length (signed w bits)
@@ -75,10 +75,10 @@ some_digits w bits h = by_sign (nat_lt bits (2 ^ (w - 1)))
     by_sign false = omega arith
 
 pub wrote_signed : (blank : List ℕ) (w bits : ℕ) (a b : List ℕ) → bits < 2 ^ 64 → b ≡ (a ++ blank) ++ signed w bits → Wrote (signed_piece blank w bits) a b
-wrote_signed blank w bits a b h e = wrote_piece blank (signed w bits) kinds.Number a b (some_digits w bits h) e
+wrote_signed blank w bits a b h e = wrote_piece blank (signed w bits) forms.Number a b (some_digits w bits h) e
 
 -- what leads a token stands before its blank
-pub led_piece : (lead text : List ℕ) (kind : Kind) → 0 < length text → bytes_of (piece (lead ++ space) kind text) ≡ lead ++ bytes_of (piece space kind text)
+pub led_piece : (lead text : List ℕ) (kind : TokenForm) → 0 < length text → bytes_of (piece (lead ++ space) kind text) ≡ lead ++ bytes_of (piece space kind text)
 led_piece lead [] kind h = absurd (omega arith)
 led_piece lead (c ∷ cs) kind h = append_assoc lead space (c ∷ cs ++ [])
 

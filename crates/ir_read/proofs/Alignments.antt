@@ -2,9 +2,9 @@
 use Rattle.std.proofs.Common.{◌≡◌, ℕ, Bool, true, false, ◌&&◌, ◌||◌, not, arith, nat_eq, cond, Some, None, List, [], ◌∷◌, ◌++◌, Result, Ok, Err, refl, sym, ap, subst}
 use Rattle.std.specs.Prelude.{codes}
 use Rattle.ir_lex.specs.Bytes.{has}
-use Rattle.ir_lex.specs.declared.head.Head.TheVariants as heads
-use Rattle.ir_lex.specs.declared.token.Kind.TheVariants as kinds
-use Rattle.ir_lex.specs.Heads.{number, head_of, word_head, listed_head, words_1}
+use Rattle.ir_lex.specs.declared.token_kind.TokenKind.TheVariants as kinds
+use Rattle.ir_lex.specs.declared.token.TokenForm.TheVariants as forms
+use Rattle.ir_lex.specs.TokenKinds.{number, kind_of, word_kind, listed_kind, words_1}
 use Rattle.ir_lex.specs.Lexing.{is_bad}
 use Rattle.ir_lex.specs.Quotes.{is_zero_name}
 use Rattle.ir_lex.specs.Rows.{begins, best_fit, rest_fit, label_len, number_len, word_len, name_len, meta_len, dots_len, other_len, string_len}
@@ -22,7 +22,7 @@ use Rattle.ir_read.specs.Decimals.{ALIGNMENTS, decimal, alignment_of, is_alignme
 use Rattle.ir_read.proofs.Singles.{sample, not_number, not_limit, number_real}
 
 abbrev NUMBER : List ℕ
-NUMBER = number heads.Number ∷ []
+NUMBER = number kinds.Number ∷ []
 
 abbrev fault : TokenFault → Result ℕ TokenFault
 fault k = Err k
@@ -31,11 +31,11 @@ abbrev aligned_by : Bool → Bool → List ℕ → Result ℕ TokenFault
 aligned_by is_number fits text = cond is_number (cond fits (Ok (decimal text)) (Err Number)) (Err Syntax)
 
 one : Tok
-one = sample kinds.Number heads.Number (codes "1")
+one = sample forms.Number kinds.Number (codes "1")
 
 range : (t : Tok) → is_alignment t ≡ fault Number → (is_number tokens t ≡ true) × (u : Tok) × (b : ℕ) × (tokens.class u ≡ tokens.class t) × (is_alignment u ≡ Ok b) × IsReal u
 unfolding is_alignment alignment_of one
-range t e = by_class (nat_eq (number t.head) (number heads.Number)) refl e
+range t e = by_class (nat_eq (number t.kind) (number kinds.Number)) refl e
   where
     same : (n m : ℕ) → nat_eq n m ≡ true → m ≡ n
     same n m h = grind arith
@@ -43,16 +43,16 @@ range t e = by_class (nat_eq (number t.head) (number heads.Number)) refl e
     never : (k l : TokenFault) → fault k ≡ fault l → k ≡ l
     never k l e = cc
 
-    is_one : (n : ℕ) → nat_eq n (number heads.Number) ≡ true → contains tokens.numerals n ≡ true
-    is_one n h = subst (λ (m : ℕ). contains tokens.numerals m ≡ true) (same n (number heads.Number) h) refl
+    is_one : (n : ℕ) → nat_eq n (number kinds.Number) ≡ true → contains tokens.numerals n ≡ true
+    is_one n h = subst (λ (m : ℕ). contains tokens.numerals m ≡ true) (same n (number kinds.Number) h) refl
 
-    by_class : (b : Bool) → nat_eq (number t.head) (number heads.Number) ≡ b → cond b (alignment_of t.text) (fault (refusal (number t.head))) ≡ fault Number → (is_number tokens t ≡ true) × (u : Tok) × (b : ℕ) × (tokens.class u ≡ tokens.class t) × (is_alignment u ≡ Ok b) × IsReal u
-    by_class true h e = (is_one (number t.head) h, one, 1, same (number t.head) (number heads.Number) h, refl, number_real)
-    by_class false h e = absurd (not_number (number t.head) (never (refusal (number t.head)) Number e))
+    by_class : (b : Bool) → nat_eq (number t.kind) (number kinds.Number) ≡ b → cond b (alignment_of t.text) (fault (refusal (number t.kind))) ≡ fault Number → (is_number tokens t ≡ true) × (u : Tok) × (b : ℕ) × (tokens.class u ≡ tokens.class t) × (is_alignment u ≡ Ok b) × IsReal u
+    by_class true h e = (is_one (number t.kind) h, one, 1, same (number t.kind) (number kinds.Number) h, refl, number_real)
+    by_class false h e = absurd (not_number (number t.kind) (never (refusal (number t.kind)) Number e))
 
 not_past : (t : Tok) → is_alignment t ≡ fault Limit → ⊥
 unfolding is_alignment alignment_of
-not_past t e = by_class (nat_eq (number t.head) (number heads.Number)) e
+not_past t e = by_class (nat_eq (number t.kind) (number kinds.Number)) e
   where
     never : (k l : TokenFault) → fault k ≡ fault l → k ≡ l
     never k l e = cc
@@ -64,13 +64,13 @@ not_past t e = by_class (nat_eq (number t.head) (number heads.Number)) e
     by_fit true e = cc
     by_fit false e = no_limit (never Number Limit e)
 
-    by_class : (b : Bool) → cond b (alignment_of t.text) (fault (refusal (number t.head))) ≡ fault Limit → ⊥
+    by_class : (b : Bool) → cond b (alignment_of t.text) (fault (refusal (number t.kind))) ≡ fault Limit → ⊥
     by_class true e = by_fit (contains ALIGNMENTS (decimal t.text) && not (begins 45 t.text)) e
-    by_class false e = not_limit (number t.head) (never (refusal (number t.head)) Limit e)
+    by_class false e = not_limit (number t.kind) (never (refusal (number t.kind)) Limit e)
 
 alike : (t u : Tok) → is_number tokens t ≡ true → tokens.class u ≡ tokens.class t → SameRefusal (is_alignment t) (is_alignment u)
 unfolding is_alignment alignment_of
-alike t u n e = by_class (nat_eq (number t.head) (number heads.Number)) (nat_eq (number u.head) (number heads.Number)) (ap (λ (m : ℕ). nat_eq m (number heads.Number)) (sym e))
+alike t u n e = by_class (nat_eq (number t.kind) (number kinds.Number)) (nat_eq (number u.kind) (number kinds.Number)) (ap (λ (m : ℕ). nat_eq m (number kinds.Number)) (sym e))
   where
     refused_alike : (k l : TokenFault) → k ≡ l → SameRefusal {A = ℕ} (Err k) (Err l)
     refused_alike Number l e = tt
@@ -82,16 +82,16 @@ alike t u n e = by_class (nat_eq (number t.head) (number heads.Number)) (nat_eq 
     by_fit true m = tt
     by_fit false m = tt
 
-    by_class : (b c : Bool) → b ≡ c → SameRefusal {A = ℕ} (cond b (alignment_of t.text) (Err (refusal (number t.head)))) (cond c (alignment_of u.text) (Err (refusal (number u.head))))
+    by_class : (b c : Bool) → b ≡ c → SameRefusal {A = ℕ} (cond b (alignment_of t.text) (Err (refusal (number t.kind)))) (cond c (alignment_of u.text) (Err (refusal (number u.kind))))
     by_class true c d = by_fit (contains ALIGNMENTS (decimal t.text) && not (begins 45 t.text)) _
     by_class false true d = absurd cc
-    by_class false false d = refused_alike (refusal (number t.head)) (refusal (number u.head)) (ap refusal (sym e))
+    by_class false false d = refused_alike (refusal (number t.kind)) (refusal (number u.kind)) (ap refusal (sym e))
 
 begins_alignment : (t : Tok) (n : ℕ) → is_alignment t ≡ Ok n → among tokens NUMBER t ≡ true
 unfolding is_alignment
-begins_alignment t n e = by_class (nat_eq (number t.head) (number heads.Number)) e
+begins_alignment t n e = by_class (nat_eq (number t.kind) (number kinds.Number)) e
   where
-    by_class : (b : Bool) → cond b (alignment_of t.text) (fault (refusal (number t.head))) ≡ Ok n → b || false ≡ true
+    by_class : (b : Bool) → cond b (alignment_of t.text) (fault (refusal (number t.kind))) ≡ Ok n → b || false ≡ true
     by_class true e = refl
     by_class false e = absurd cc
 

@@ -1,10 +1,10 @@
 -- The readers of metadata behind a declaration's head read it.
 use Rattle.std.proofs.Common.{◌≡◌, ℕ, Bool, true, false, cond, ◌||◌, ◌&&◌, nat_eq, List, [], ◌∷◌, ◌++◌, Result, Ok, Err, refl, sym, ap, ◌∙◌, arith}
 use Rattle.std.specs.Prelude.{codes}
-use Rattle.ir_lex.specs.declared.head.Head.TheVariants as heads
-use Rattle.ir_lex.specs.declared.head.Head.{Head}
-use Rattle.ir_lex.specs.declared.token.Kind.TheVariants as kinds
-use Rattle.ir_lex.specs.Heads.{number}
+use Rattle.ir_lex.specs.declared.token_kind.TokenKind.TheVariants as kinds
+use Rattle.ir_lex.specs.declared.token_kind.TokenKind.{TokenKind}
+use Rattle.ir_lex.specs.declared.token.TokenForm.TheVariants as forms
+use Rattle.ir_lex.specs.TokenKinds.{number}
 use Rattle.ir_lex.specs.Tok.{Tok}
 use Rattle.ir_read.specs.Alphabet.{among, contains, is_number}
 use Rattle.ir_read.specs.Balanced.{Move, opens, closes, stays}
@@ -91,7 +91,7 @@ module _ (apart : List ℕ) (no_numbers : disjoint NUMERALS apart ≡ true) wher
   unfolding line_goes_on
   goes_on_ranged = record {
     range = λ t e. absurd (never_number (among tokens apart t) (line_step [] t) e);
-    alike = λ t u n m. fits (among tokens apart t) t.ends_line (move_of t.head) (is_false _ (apart_from NUMERALS apart no_numbers (number t.head) n)) (number_stays t.head n) _;
+    alike = λ t u n m. fits (among tokens apart t) t.ends_line (move_of t.kind) (is_false _ (apart_from NUMERALS apart no_numbers (number t.kind) n)) (number_stays t.kind n) _;
     never = λ t e. never_limit (among tokens apart t) (line_step [] t) e;
   }
 
@@ -101,10 +101,10 @@ module _ (apart : List ℕ) (no_numbers : disjoint NUMERALS apart ≡ true) wher
     where
       by_test : (b : Bool) → among tokens apart t ≡ b → cond b (refuse Syntax) (fitting (line_step [] t)) ≡ Ok s → among tokens (others apart) t ≡ true
       by_test true d e = absurd cc
-      by_test false d e = kept apart EVERY (number t.head) d (every_class t.head)
+      by_test false d e = kept apart EVERY (number t.kind) d (every_class t.kind)
 
-  first_rule : (s : Step (List Bracket)) → line_goes_on apart (sample kinds.Number heads.Number (codes "1")) ≡ Ok s → Rule tokens (form.token (line_goes_on apart)) (form.token (line_goes_on apart)) (reader.token_at (line_goes_on apart)) (others apart) [] false
-  first_rule s e = record { law = token_lawful tokens (line_goes_on apart) (among tokens (others apart)) goes_on_ranged goes_on_begins (sample kinds.Number heads.Number (codes "1")) s e number_real }
+  first_rule : (s : Step (List Bracket)) → line_goes_on apart (sample forms.Number kinds.Number (codes "1")) ≡ Ok s → Rule tokens (form.token (line_goes_on apart)) (form.token (line_goes_on apart)) (reader.token_at (line_goes_on apart)) (others apart) [] false
+  first_rule s e = record { law = token_lawful tokens (line_goes_on apart) (among tokens (others apart)) goes_on_ranged goes_on_begins (sample forms.Number kinds.Number (codes "1")) s e number_real }
 
 line_rest_rule : (s : Step (List Bracket)) → Rule tokens (line_rest s) (line_rest s) (line_rest_at s) EVERY [] true
 line_rest_rule bad = rules.wider tokens _ _ (rules.nothing tokens tt) refl refl
@@ -135,7 +135,7 @@ behind_mark_rule ends = rules.wider tokens _ _ (rules.alt tokens CURLY (rules.se
 
 marked_rule : Rule tokens marked marked marked_at BANG BRACES false
 unfolding marked marked_at
-marked_rule = rules.seq tokens (one_rule BANG ends_line (sample kinds.Meta heads.Bang (codes "!")) refl bang_real) behind_mark_rule refl
+marked_rule = rules.seq tokens (one_rule BANG ends_line (sample forms.Meta kinds.Bang (codes "!")) refl bang_real) behind_mark_rule refl
 
 pub node_yet_rule : Rule tokens node_yet node_yet node_yet_at META BRACES false
 unfolding node_yet node_yet_at
@@ -151,4 +151,4 @@ behind_name_rule false = rules.wider tokens _ _ node_or_line_rule refl refl
 
 pub metadata_behind_rule : Rule tokens metadata_behind metadata_behind metadata_behind_at META BRACES false
 unfolding metadata_behind metadata_behind_at
-metadata_behind_rule = rules.seq tokens (one_rule META ends_line (sample kinds.Meta heads.Meta (codes "!a")) refl meta_real) behind_name_rule refl
+metadata_behind_rule = rules.seq tokens (one_rule META ends_line (sample forms.Meta kinds.Meta (codes "!a")) refl meta_real) behind_name_rule refl

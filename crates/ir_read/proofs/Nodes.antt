@@ -2,9 +2,9 @@
 use Rattle.std.proofs.Common.{◌≡◌, Bool, true, false, ◌&&◌, cond, List, [], ◌∷◌, refl, sym, ap, ◌∙◌}
 use Rattle.std.specs.Prelude.{codes}
 use Rattle.ir_lex.specs.Bytes.{has}
-use Rattle.ir_lex.specs.declared.head.Head.TheVariants as heads
-use Rattle.ir_lex.specs.declared.token.Kind.TheVariants as kinds
-use Rattle.ir_lex.specs.Heads.{number, head_of}
+use Rattle.ir_lex.specs.declared.token_kind.TokenKind.TheVariants as kinds
+use Rattle.ir_lex.specs.declared.token.TokenForm.TheVariants as forms
+use Rattle.ir_lex.specs.TokenKinds.{number, kind_of}
 use Rattle.ir_lex.specs.Lexing.{is_bad}
 use Rattle.ir_lex.specs.Quotes.{is_zero_name}
 use Rattle.ir_lex.specs.Rows.{best_fit, rest_fit, label_len, number_len, word_len, name_len, meta_len, dots_len, other_len, string_len}
@@ -25,7 +25,7 @@ use Rattle.ir_read.proofs.GroupRules.{EVERY, every_class, closer, closer_real, n
 use Rattle.ir_read.proofs.Singles.{sample, the_opens, one_rule, one_opens, meta_real, meta_rule, bang_rule, comma_rule}
 
 meta_sample : Rule tokens (one_of META ends_line) (one_of META ends_line) (one_of_at META ends_line) META [] false
-meta_sample = one_rule META ends_line (sample kinds.Meta heads.Meta (codes "!a")) refl meta_real
+meta_sample = one_rule META ends_line (sample forms.Meta kinds.Meta (codes "!a")) refl meta_real
 
 pub node_rule : Rule tokens node node node_at META PAREN false
 unfolding node node_at
@@ -47,9 +47,9 @@ attachment_rule = rules.seq tokens comma_rule (λ _. attached_rule) refl
 
 pub attachment_opens : Opens tokens COMMA attachment
 unfolding attachment
-attachment_opens = rules.opens_seq tokens COMMA (the heads.Comma) (the_opens heads.Comma) (λ _. attached_rule)
+attachment_opens = rules.opens_seq tokens COMMA (the kinds.Comma) (the_opens kinds.Comma) (λ _. attached_rule)
 
-pub attachments_rule : Rule tokens attachments attachments attachments_at COMMA (number heads.OpenParen ∷ number heads.Comma ∷ []) true
+pub attachments_rule : Rule tokens attachments attachments attachments_at COMMA (number kinds.OpenParen ∷ number kinds.Comma ∷ []) true
 unfolding attachments attachments_at
 attachments_rule = rules.seq tokens (rules.star tokens COMMA attachment_rule attachment_opens refl refl) (λ _. rules.nothing tokens tt) refl
 
@@ -57,10 +57,10 @@ attachments_rule = rules.seq tokens (rules.star tokens COMMA attachment_rule att
 
 -- a token behind which the line ends
 line_end : Tok
-line_end = record { kind = kinds.Meta; text = codes "!a"; line = 1; head = heads.Meta; ends_line = true }
+line_end = record { form = forms.Meta; text = codes "!a"; line = 1; kind = kinds.Meta; ends_line = true }
 
 line_end_real : IsReal line_end
-unfolding line_end best_fit rest_fit label_len number_len word_len name_len meta_len dots_len other_len string_len has is_bad is_zero_name head_of
+unfolding line_end best_fit rest_fit label_len number_len word_len name_len meta_len dots_len other_len string_len has is_bad is_zero_name kind_of
 line_end_real = record { behind = []; some = refl; fits = refl; good = refl; class = refl }
 
 ending : List Bracket → List Tok
@@ -94,11 +94,11 @@ have_ends = record {
   ending = ending;
   leads = leads;
   real = ending_real;
-  number_fits = λ bs t n e. stays_fits t.ends_line bs (ap (λ (m : Move Bracket). ended_by t.ends_line (open_behind m bs)) (sym (number_stays t.head n)) ∙ e);
+  number_fits = λ bs t n e. stays_fits t.ends_line bs (ap (λ (m : Move Bracket). ended_by t.ends_line (open_behind m bs)) (sym (number_stays t.kind n)) ∙ e);
 }
 
 pub line_rule : (bs : List Bracket) → Rule tokens (Run line_step bs) (Run line_step bs) (run_at line_step bs) EVERY [] false
-line_rule bs = record { law = widened tokens (among tokens EVERY) (among tokens []) (run_lawful tokens line_step have_ends bs) (λ t e. every_class t.head) (λ t e. e) }
+line_rule bs = record { law = widened tokens (among tokens EVERY) (among tokens []) (run_lawful tokens line_step have_ends bs) (λ t e. every_class t.kind) (λ t e. e) }
 
 rest_of_line_rule : (ends : Bool) → Rule tokens (rest_of_line ends) (rest_of_line ends) (rest_of_line_at ends) EVERY [] true
 rest_of_line_rule true = rules.wider tokens _ _ (rules.nothing tokens tt) refl refl

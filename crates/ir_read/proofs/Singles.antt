@@ -2,11 +2,11 @@
 use Rattle.std.proofs.Common.{◌≡◌, ℕ, Bool, true, false, cond, List, [], ◌∷◌, Ok, refl}
 use Rattle.std.specs.Prelude.{codes}
 use Rattle.ir_lex.specs.Bytes.{has}
-use Rattle.ir_lex.specs.declared.head.Head.TheVariants as heads
-use Rattle.ir_lex.specs.declared.head.Head.{Head}
-use Rattle.ir_lex.specs.declared.token.Kind.TheVariants as kinds
-use Rattle.ir_lex.specs.declared.token.Kind.{Kind}
-use Rattle.ir_lex.specs.Heads.{number, head_of, mark_head, word_head, listed_head, words_5, words_7, words_8, words_10}
+use Rattle.ir_lex.specs.declared.token_kind.TokenKind.TheVariants as kinds
+use Rattle.ir_lex.specs.declared.token_kind.TokenKind.{TokenKind}
+use Rattle.ir_lex.specs.declared.token.TokenForm.TheVariants as forms
+use Rattle.ir_lex.specs.declared.token.TokenForm.{TokenForm}
+use Rattle.ir_lex.specs.TokenKinds.{number, kind_of, mark_kind, word_kind, listed_kind, words_5, words_7, words_8, words_10}
 use Rattle.ir_lex.specs.Lexing.{is_bad}
 use Rattle.ir_lex.specs.Quotes.{is_zero_name}
 use Rattle.ir_lex.specs.Rows.{best_fit, rest_fit, label_len, number_len, word_len, name_len, meta_len, dots_len, other_len, string_len}
@@ -19,14 +19,14 @@ use Rattle.ir_read.proofs.Rules as rules
 use Rattle.ir_read.specs.Classes.{tokens, IsReal, REFUSED, refusal, the, the_at, one_of, one_of_at}
 
 -- a token that stands alone on a line
-abbrev pub sample : Kind → Head → List ℕ → Tok
-sample kind head text = record { kind = kind; text = text; line = 1; head = head; ends_line = false }
+abbrev pub sample : TokenForm → TokenKind → List ℕ → Tok
+sample kind head text = record { form = kind; text = text; line = 1; kind = head; ends_line = false }
 
-abbrev pub mark : Head → List ℕ → Tok
-mark = sample kinds.Other
+abbrev pub mark : TokenKind → List ℕ → Tok
+mark = sample forms.Other
 
-abbrev pub word : Head → List ℕ → Tok
-word = sample kinds.Word
+abbrev pub word : TokenKind → List ℕ → Tok
+word = sample forms.Word
 
 abbrev by_refused : Bool → TokenFault
 by_refused b = cond b Profile Syntax
@@ -45,10 +45,10 @@ not_limit n e = by_test (contains REFUSED n) e
     by_test true e = cc
     by_test false e = cc
 
-pub the_rule : (wanted : Head) (t : Tok) → is_class tokens refusal (number wanted) t ≡ Ok tt → IsReal t → Rule tokens (the wanted) (the wanted) (the_at wanted) (number wanted ∷ []) [] false
+pub the_rule : (wanted : TokenKind) (t : Tok) → is_class tokens refusal (number wanted) t ≡ Ok tt → IsReal t → Rule tokens (the wanted) (the wanted) (the_at wanted) (number wanted ∷ []) [] false
 the_rule wanted t e real = rules.class_rule tokens refusal not_number not_limit (number wanted) t e real
 
-pub the_opens : (wanted : Head) → Opens tokens (number wanted ∷ []) (the wanted)
+pub the_opens : (wanted : TokenKind) → Opens tokens (number wanted ∷ []) (the wanted)
 the_opens wanted = rules.opens_class tokens refusal (number wanted)
 
 pub one_rule : {A : Type 0} (classes : List ℕ) (value : Tok → A) (t : Tok) → among tokens classes t ≡ true → IsReal t → Rule tokens (one_of classes value) (one_of classes value) (one_of_at classes value) classes [] false
@@ -59,158 +59,158 @@ one_opens classes value = rules.opens_among tokens refusal classes value
 
 -- ---- marks
 
-pub comma_real : IsReal (mark heads.Comma (codes ","))
-unfolding best_fit rest_fit label_len number_len word_len name_len meta_len dots_len other_len string_len has is_bad is_zero_name head_of mark_head
+pub comma_real : IsReal (mark kinds.Comma (codes ","))
+unfolding best_fit rest_fit label_len number_len word_len name_len meta_len dots_len other_len string_len has is_bad is_zero_name kind_of mark_kind
 comma_real = record { behind = []; some = refl; fits = refl; good = refl; class = refl }
 
-pub comma_rule : Rule tokens (the heads.Comma) (the heads.Comma) (the_at heads.Comma) (number heads.Comma ∷ []) [] false
+pub comma_rule : Rule tokens (the kinds.Comma) (the kinds.Comma) (the_at kinds.Comma) (number kinds.Comma ∷ []) [] false
 unfolding is_class
-comma_rule = the_rule heads.Comma (mark heads.Comma (codes ",")) refl comma_real
+comma_rule = the_rule kinds.Comma (mark kinds.Comma (codes ",")) refl comma_real
 
-pub equals_real : IsReal (mark heads.Equals (codes "="))
-unfolding best_fit rest_fit label_len number_len word_len name_len meta_len dots_len other_len string_len has is_bad is_zero_name head_of mark_head
+pub equals_real : IsReal (mark kinds.Equals (codes "="))
+unfolding best_fit rest_fit label_len number_len word_len name_len meta_len dots_len other_len string_len has is_bad is_zero_name kind_of mark_kind
 equals_real = record { behind = []; some = refl; fits = refl; good = refl; class = refl }
 
-pub equals_rule : Rule tokens (the heads.Equals) (the heads.Equals) (the_at heads.Equals) (number heads.Equals ∷ []) [] false
+pub equals_rule : Rule tokens (the kinds.Equals) (the kinds.Equals) (the_at kinds.Equals) (number kinds.Equals ∷ []) [] false
 unfolding is_class
-equals_rule = the_rule heads.Equals (mark heads.Equals (codes "=")) refl equals_real
+equals_rule = the_rule kinds.Equals (mark kinds.Equals (codes "=")) refl equals_real
 
-pub open_paren_real : IsReal (mark heads.OpenParen (codes "("))
-unfolding best_fit rest_fit label_len number_len word_len name_len meta_len dots_len other_len string_len has is_bad is_zero_name head_of mark_head
+pub open_paren_real : IsReal (mark kinds.OpenParen (codes "("))
+unfolding best_fit rest_fit label_len number_len word_len name_len meta_len dots_len other_len string_len has is_bad is_zero_name kind_of mark_kind
 open_paren_real = record { behind = []; some = refl; fits = refl; good = refl; class = refl }
 
-pub open_paren_rule : Rule tokens (the heads.OpenParen) (the heads.OpenParen) (the_at heads.OpenParen) (number heads.OpenParen ∷ []) [] false
+pub open_paren_rule : Rule tokens (the kinds.OpenParen) (the kinds.OpenParen) (the_at kinds.OpenParen) (number kinds.OpenParen ∷ []) [] false
 unfolding is_class
-open_paren_rule = the_rule heads.OpenParen (mark heads.OpenParen (codes "(")) refl open_paren_real
+open_paren_rule = the_rule kinds.OpenParen (mark kinds.OpenParen (codes "(")) refl open_paren_real
 
-pub close_paren_real : IsReal (mark heads.CloseParen (codes ")"))
-unfolding best_fit rest_fit label_len number_len word_len name_len meta_len dots_len other_len string_len has is_bad is_zero_name head_of mark_head
+pub close_paren_real : IsReal (mark kinds.CloseParen (codes ")"))
+unfolding best_fit rest_fit label_len number_len word_len name_len meta_len dots_len other_len string_len has is_bad is_zero_name kind_of mark_kind
 close_paren_real = record { behind = []; some = refl; fits = refl; good = refl; class = refl }
 
-pub close_paren_rule : Rule tokens (the heads.CloseParen) (the heads.CloseParen) (the_at heads.CloseParen) (number heads.CloseParen ∷ []) [] false
+pub close_paren_rule : Rule tokens (the kinds.CloseParen) (the kinds.CloseParen) (the_at kinds.CloseParen) (number kinds.CloseParen ∷ []) [] false
 unfolding is_class
-close_paren_rule = the_rule heads.CloseParen (mark heads.CloseParen (codes ")")) refl close_paren_real
+close_paren_rule = the_rule kinds.CloseParen (mark kinds.CloseParen (codes ")")) refl close_paren_real
 
-pub open_bracket_real : IsReal (mark heads.OpenBracket (codes "["))
-unfolding best_fit rest_fit label_len number_len word_len name_len meta_len dots_len other_len string_len has is_bad is_zero_name head_of mark_head
+pub open_bracket_real : IsReal (mark kinds.OpenBracket (codes "["))
+unfolding best_fit rest_fit label_len number_len word_len name_len meta_len dots_len other_len string_len has is_bad is_zero_name kind_of mark_kind
 open_bracket_real = record { behind = []; some = refl; fits = refl; good = refl; class = refl }
 
-pub open_bracket_rule : Rule tokens (the heads.OpenBracket) (the heads.OpenBracket) (the_at heads.OpenBracket) (number heads.OpenBracket ∷ []) [] false
+pub open_bracket_rule : Rule tokens (the kinds.OpenBracket) (the kinds.OpenBracket) (the_at kinds.OpenBracket) (number kinds.OpenBracket ∷ []) [] false
 unfolding is_class
-open_bracket_rule = the_rule heads.OpenBracket (mark heads.OpenBracket (codes "[")) refl open_bracket_real
+open_bracket_rule = the_rule kinds.OpenBracket (mark kinds.OpenBracket (codes "[")) refl open_bracket_real
 
-pub close_bracket_real : IsReal (mark heads.CloseBracket (codes "]"))
-unfolding best_fit rest_fit label_len number_len word_len name_len meta_len dots_len other_len string_len has is_bad is_zero_name head_of mark_head
+pub close_bracket_real : IsReal (mark kinds.CloseBracket (codes "]"))
+unfolding best_fit rest_fit label_len number_len word_len name_len meta_len dots_len other_len string_len has is_bad is_zero_name kind_of mark_kind
 close_bracket_real = record { behind = []; some = refl; fits = refl; good = refl; class = refl }
 
-pub close_bracket_rule : Rule tokens (the heads.CloseBracket) (the heads.CloseBracket) (the_at heads.CloseBracket) (number heads.CloseBracket ∷ []) [] false
+pub close_bracket_rule : Rule tokens (the kinds.CloseBracket) (the kinds.CloseBracket) (the_at kinds.CloseBracket) (number kinds.CloseBracket ∷ []) [] false
 unfolding is_class
-close_bracket_rule = the_rule heads.CloseBracket (mark heads.CloseBracket (codes "]")) refl close_bracket_real
+close_bracket_rule = the_rule kinds.CloseBracket (mark kinds.CloseBracket (codes "]")) refl close_bracket_real
 
-pub open_brace_real : IsReal (mark heads.OpenBrace (codes "{"))
-unfolding best_fit rest_fit label_len number_len word_len name_len meta_len dots_len other_len string_len has is_bad is_zero_name head_of mark_head
+pub open_brace_real : IsReal (mark kinds.OpenBrace (codes "{"))
+unfolding best_fit rest_fit label_len number_len word_len name_len meta_len dots_len other_len string_len has is_bad is_zero_name kind_of mark_kind
 open_brace_real = record { behind = []; some = refl; fits = refl; good = refl; class = refl }
 
-pub open_brace_rule : Rule tokens (the heads.OpenBrace) (the heads.OpenBrace) (the_at heads.OpenBrace) (number heads.OpenBrace ∷ []) [] false
+pub open_brace_rule : Rule tokens (the kinds.OpenBrace) (the kinds.OpenBrace) (the_at kinds.OpenBrace) (number kinds.OpenBrace ∷ []) [] false
 unfolding is_class
-open_brace_rule = the_rule heads.OpenBrace (mark heads.OpenBrace (codes "{")) refl open_brace_real
+open_brace_rule = the_rule kinds.OpenBrace (mark kinds.OpenBrace (codes "{")) refl open_brace_real
 
-pub close_brace_real : IsReal (mark heads.CloseBrace (codes "}"))
-unfolding best_fit rest_fit label_len number_len word_len name_len meta_len dots_len other_len string_len has is_bad is_zero_name head_of mark_head
+pub close_brace_real : IsReal (mark kinds.CloseBrace (codes "}"))
+unfolding best_fit rest_fit label_len number_len word_len name_len meta_len dots_len other_len string_len has is_bad is_zero_name kind_of mark_kind
 close_brace_real = record { behind = []; some = refl; fits = refl; good = refl; class = refl }
 
-pub close_brace_rule : Rule tokens (the heads.CloseBrace) (the heads.CloseBrace) (the_at heads.CloseBrace) (number heads.CloseBrace ∷ []) [] false
+pub close_brace_rule : Rule tokens (the kinds.CloseBrace) (the kinds.CloseBrace) (the_at kinds.CloseBrace) (number kinds.CloseBrace ∷ []) [] false
 unfolding is_class
-close_brace_rule = the_rule heads.CloseBrace (mark heads.CloseBrace (codes "}")) refl close_brace_real
+close_brace_rule = the_rule kinds.CloseBrace (mark kinds.CloseBrace (codes "}")) refl close_brace_real
 
-pub open_angle_real : IsReal (mark heads.OpenAngle (codes "<"))
-unfolding best_fit rest_fit label_len number_len word_len name_len meta_len dots_len other_len string_len has is_bad is_zero_name head_of mark_head
+pub open_angle_real : IsReal (mark kinds.OpenAngle (codes "<"))
+unfolding best_fit rest_fit label_len number_len word_len name_len meta_len dots_len other_len string_len has is_bad is_zero_name kind_of mark_kind
 open_angle_real = record { behind = []; some = refl; fits = refl; good = refl; class = refl }
 
-pub open_angle_rule : Rule tokens (the heads.OpenAngle) (the heads.OpenAngle) (the_at heads.OpenAngle) (number heads.OpenAngle ∷ []) [] false
+pub open_angle_rule : Rule tokens (the kinds.OpenAngle) (the kinds.OpenAngle) (the_at kinds.OpenAngle) (number kinds.OpenAngle ∷ []) [] false
 unfolding is_class
-open_angle_rule = the_rule heads.OpenAngle (mark heads.OpenAngle (codes "<")) refl open_angle_real
+open_angle_rule = the_rule kinds.OpenAngle (mark kinds.OpenAngle (codes "<")) refl open_angle_real
 
-pub close_angle_real : IsReal (mark heads.CloseAngle (codes ">"))
-unfolding best_fit rest_fit label_len number_len word_len name_len meta_len dots_len other_len string_len has is_bad is_zero_name head_of mark_head
+pub close_angle_real : IsReal (mark kinds.CloseAngle (codes ">"))
+unfolding best_fit rest_fit label_len number_len word_len name_len meta_len dots_len other_len string_len has is_bad is_zero_name kind_of mark_kind
 close_angle_real = record { behind = []; some = refl; fits = refl; good = refl; class = refl }
 
-pub close_angle_rule : Rule tokens (the heads.CloseAngle) (the heads.CloseAngle) (the_at heads.CloseAngle) (number heads.CloseAngle ∷ []) [] false
+pub close_angle_rule : Rule tokens (the kinds.CloseAngle) (the kinds.CloseAngle) (the_at kinds.CloseAngle) (number kinds.CloseAngle ∷ []) [] false
 unfolding is_class
-close_angle_rule = the_rule heads.CloseAngle (mark heads.CloseAngle (codes ">")) refl close_angle_real
+close_angle_rule = the_rule kinds.CloseAngle (mark kinds.CloseAngle (codes ">")) refl close_angle_real
 
 -- ---- names, numbers and strings
 
-pub number_real : IsReal (sample kinds.Number heads.Number (codes "1"))
-unfolding best_fit rest_fit label_len number_len word_len name_len meta_len dots_len other_len string_len has is_bad is_zero_name head_of
+pub number_real : IsReal (sample forms.Number kinds.Number (codes "1"))
+unfolding best_fit rest_fit label_len number_len word_len name_len meta_len dots_len other_len string_len has is_bad is_zero_name kind_of
 number_real = record { behind = []; some = refl; fits = refl; good = refl; class = refl }
 
-pub number_rule : Rule tokens (the heads.Number) (the heads.Number) (the_at heads.Number) (number heads.Number ∷ []) [] false
+pub number_rule : Rule tokens (the kinds.Number) (the kinds.Number) (the_at kinds.Number) (number kinds.Number ∷ []) [] false
 unfolding is_class
-number_rule = the_rule heads.Number (sample kinds.Number heads.Number (codes "1")) refl number_real
+number_rule = the_rule kinds.Number (sample forms.Number kinds.Number (codes "1")) refl number_real
 
-pub meta_real : IsReal (sample kinds.Meta heads.Meta (codes "!a"))
-unfolding best_fit rest_fit label_len number_len word_len name_len meta_len dots_len other_len string_len has is_bad is_zero_name head_of
+pub meta_real : IsReal (sample forms.Meta kinds.Meta (codes "!a"))
+unfolding best_fit rest_fit label_len number_len word_len name_len meta_len dots_len other_len string_len has is_bad is_zero_name kind_of
 meta_real = record { behind = []; some = refl; fits = refl; good = refl; class = refl }
 
-pub meta_rule : Rule tokens (the heads.Meta) (the heads.Meta) (the_at heads.Meta) (number heads.Meta ∷ []) [] false
+pub meta_rule : Rule tokens (the kinds.Meta) (the kinds.Meta) (the_at kinds.Meta) (number kinds.Meta ∷ []) [] false
 unfolding is_class
-meta_rule = the_rule heads.Meta (sample kinds.Meta heads.Meta (codes "!a")) refl meta_real
+meta_rule = the_rule kinds.Meta (sample forms.Meta kinds.Meta (codes "!a")) refl meta_real
 
-pub bang_real : IsReal (sample kinds.Meta heads.Bang (codes "!"))
-unfolding best_fit rest_fit label_len number_len word_len name_len meta_len dots_len other_len string_len has is_bad is_zero_name head_of
+pub bang_real : IsReal (sample forms.Meta kinds.Bang (codes "!"))
+unfolding best_fit rest_fit label_len number_len word_len name_len meta_len dots_len other_len string_len has is_bad is_zero_name kind_of
 bang_real = record { behind = []; some = refl; fits = refl; good = refl; class = refl }
 
-pub bang_rule : Rule tokens (the heads.Bang) (the heads.Bang) (the_at heads.Bang) (number heads.Bang ∷ []) [] false
+pub bang_rule : Rule tokens (the kinds.Bang) (the kinds.Bang) (the_at kinds.Bang) (number kinds.Bang ∷ []) [] false
 unfolding is_class
-bang_rule = the_rule heads.Bang (sample kinds.Meta heads.Bang (codes "!")) refl bang_real
+bang_rule = the_rule kinds.Bang (sample forms.Meta kinds.Bang (codes "!")) refl bang_real
 
-pub group_name_real : IsReal (sample kinds.Group heads.Group (codes "#0"))
-unfolding best_fit rest_fit label_len number_len word_len name_len meta_len dots_len other_len string_len has is_bad is_zero_name head_of
+pub group_name_real : IsReal (sample forms.Group kinds.Group (codes "#0"))
+unfolding best_fit rest_fit label_len number_len word_len name_len meta_len dots_len other_len string_len has is_bad is_zero_name kind_of
 group_name_real = record { behind = []; some = refl; fits = refl; good = refl; class = refl }
 
-pub group_name_rule : Rule tokens (the heads.Group) (the heads.Group) (the_at heads.Group) (number heads.Group ∷ []) [] false
+pub group_name_rule : Rule tokens (the kinds.Group) (the kinds.Group) (the_at kinds.Group) (number kinds.Group ∷ []) [] false
 unfolding is_class
-group_name_rule = the_rule heads.Group (sample kinds.Group heads.Group (codes "#0")) refl group_name_real
+group_name_rule = the_rule kinds.Group (sample forms.Group kinds.Group (codes "#0")) refl group_name_real
 
-pub string_real : IsReal (sample kinds.Str heads.Str (codes "\"\""))
-unfolding best_fit rest_fit label_len number_len word_len name_len meta_len dots_len other_len string_len has is_bad is_zero_name head_of
+pub string_real : IsReal (sample forms.Str kinds.Str (codes "\"\""))
+unfolding best_fit rest_fit label_len number_len word_len name_len meta_len dots_len other_len string_len has is_bad is_zero_name kind_of
 string_real = record { behind = []; some = refl; fits = refl; good = refl; class = refl }
 
-pub string_rule : Rule tokens (the heads.Str) (the heads.Str) (the_at heads.Str) (number heads.Str ∷ []) [] false
+pub string_rule : Rule tokens (the kinds.Str) (the kinds.Str) (the_at kinds.Str) (number kinds.Str ∷ []) [] false
 unfolding is_class
-string_rule = the_rule heads.Str (sample kinds.Str heads.Str (codes "\"\"")) refl string_real
+string_rule = the_rule kinds.Str (sample forms.Str kinds.Str (codes "\"\"")) refl string_real
 
 -- ---- words
 
-pub align_real : IsReal (word heads.Align (codes "align"))
-unfolding best_fit rest_fit label_len number_len word_len name_len meta_len dots_len other_len string_len has is_bad is_zero_name head_of word_head listed_head words_5
+pub align_real : IsReal (word kinds.Align (codes "align"))
+unfolding best_fit rest_fit label_len number_len word_len name_len meta_len dots_len other_len string_len has is_bad is_zero_name kind_of word_kind listed_kind words_5
 align_real = record { behind = []; some = refl; fits = refl; good = refl; class = refl }
 
-pub align_rule : Rule tokens (the heads.Align) (the heads.Align) (the_at heads.Align) (number heads.Align ∷ []) [] false
+pub align_rule : Rule tokens (the kinds.Align) (the kinds.Align) (the_at kinds.Align) (number kinds.Align ∷ []) [] false
 unfolding is_class
-align_rule = the_rule heads.Align (word heads.Align (codes "align")) refl align_real
+align_rule = the_rule kinds.Align (word kinds.Align (codes "align")) refl align_real
 
-pub parameter_word_real : IsReal (word heads.ParameterWord (codes "noundef"))
-unfolding best_fit rest_fit label_len number_len word_len name_len meta_len dots_len other_len string_len has is_bad is_zero_name head_of word_head listed_head words_7
+pub parameter_word_real : IsReal (word kinds.ParameterWord (codes "noundef"))
+unfolding best_fit rest_fit label_len number_len word_len name_len meta_len dots_len other_len string_len has is_bad is_zero_name kind_of word_kind listed_kind words_7
 parameter_word_real = record { behind = []; some = refl; fits = refl; good = refl; class = refl }
 
-pub parameter_word_rule : Rule tokens (the heads.ParameterWord) (the heads.ParameterWord) (the_at heads.ParameterWord) (number heads.ParameterWord ∷ []) [] false
+pub parameter_word_rule : Rule tokens (the kinds.ParameterWord) (the kinds.ParameterWord) (the_at kinds.ParameterWord) (number kinds.ParameterWord ∷ []) [] false
 unfolding is_class
-parameter_word_rule = the_rule heads.ParameterWord (word heads.ParameterWord (codes "noundef")) refl parameter_word_real
+parameter_word_rule = the_rule kinds.ParameterWord (word kinds.ParameterWord (codes "noundef")) refl parameter_word_real
 
-pub parameter_group_real : IsReal (word heads.ParameterGroup (codes "captures"))
-unfolding best_fit rest_fit label_len number_len word_len name_len meta_len dots_len other_len string_len has is_bad is_zero_name head_of word_head listed_head words_8
+pub parameter_group_real : IsReal (word kinds.ParameterGroup (codes "captures"))
+unfolding best_fit rest_fit label_len number_len word_len name_len meta_len dots_len other_len string_len has is_bad is_zero_name kind_of word_kind listed_kind words_8
 parameter_group_real = record { behind = []; some = refl; fits = refl; good = refl; class = refl }
 
-pub parameter_group_rule : Rule tokens (the heads.ParameterGroup) (the heads.ParameterGroup) (the_at heads.ParameterGroup) (number heads.ParameterGroup ∷ []) [] false
+pub parameter_group_rule : Rule tokens (the kinds.ParameterGroup) (the kinds.ParameterGroup) (the_at kinds.ParameterGroup) (number kinds.ParameterGroup ∷ []) [] false
 unfolding is_class
-parameter_group_rule = the_rule heads.ParameterGroup (word heads.ParameterGroup (codes "captures")) refl parameter_group_real
+parameter_group_rule = the_rule kinds.ParameterGroup (word kinds.ParameterGroup (codes "captures")) refl parameter_group_real
 
-pub attributes_real : IsReal (word heads.Attributes (codes "attributes"))
-unfolding best_fit rest_fit label_len number_len word_len name_len meta_len dots_len other_len string_len has is_bad is_zero_name head_of word_head listed_head words_10
+pub attributes_real : IsReal (word kinds.Attributes (codes "attributes"))
+unfolding best_fit rest_fit label_len number_len word_len name_len meta_len dots_len other_len string_len has is_bad is_zero_name kind_of word_kind listed_kind words_10
 attributes_real = record { behind = []; some = refl; fits = refl; good = refl; class = refl }
 
-pub attributes_rule : Rule tokens (the heads.Attributes) (the heads.Attributes) (the_at heads.Attributes) (number heads.Attributes ∷ []) [] false
+pub attributes_rule : Rule tokens (the kinds.Attributes) (the kinds.Attributes) (the_at kinds.Attributes) (number kinds.Attributes ∷ []) [] false
 unfolding is_class
-attributes_rule = the_rule heads.Attributes (word heads.Attributes (codes "attributes")) refl attributes_real
+attributes_rule = the_rule kinds.Attributes (word kinds.Attributes (codes "attributes")) refl attributes_real

@@ -12,7 +12,7 @@ use Rattle.ir_tree.specs.Failures.{IfFault}
 use Rattle.ir_read.specs.Faults.{Extends, NoNameGoesOn, NoNumberGoesOn, FitsKind, Dead, StopsAt}
 use Rattle.ir_read.specs.Forms.{Form}
 use Rattle.ir_read.specs.Lawful.{ends, Swapped, Lawful}
-use Rattle.ir_read.specs.Readers.{Reader, fault_at, Gives, ended, whole_of}
+use Rattle.ir_read.specs.Readers.{Reader, fault_at, Returns, ended, whole_of}
 use Rattle.ir_read.proofs.Composed.{reads, reads_is, wrong, wrong_is, right, right_is, cut_is}
 
 module _ {T : Type 0} (alphabet : Alphabet T) where
@@ -94,14 +94,14 @@ module _ {T : Type 0} (alphabet : Alphabet T) where
 
     -- ---- what a function says that gives this reading
 
-    pub found : {X : Type 0} (view : X → A) (r : Result X (Failure Fault)) (ts : List T) → Gives view r (whole_of extra (f ts)) → IfOk r (λ x. g ts (view x))
+    pub found : {X : Type 0} (view : X → A) (r : Result X (Failure Fault)) (ts : List T) → Returns view r (whole_of extra (f ts)) → IfOk r (λ x. g ts (view x))
     found view (Ok x) ts d = whole_sound ts (view x) d
     found view (Err e) ts d = tt
 
-    pub only : {X : Type 0} (view : X → A) (r : Result X (Failure Fault)) (ts : List T) → Gives view r (whole_of extra (f ts)) → (a : A) → g ts a → Gives view r (Ok a)
-    only view r ts d a s = subst (λ (x : Result A Fault). Gives view r x) (whole_again ts a s) d
+    pub only : {X : Type 0} (view : X → A) (r : Result X (Failure Fault)) (ts : List T) → Returns view r (whole_of extra (f ts)) → (a : A) → g ts a → Returns view r (Ok a)
+    only view r ts d a s = subst (λ (x : Result A Fault). Returns view r x) (whole_again ts a s) d
 
-    pub stops : {X : Type 0} (view : X → A) (r : Result X (Failure Fault)) (ts : List T) → Gives view r (whole_of extra (f ts)) → IfErr r (λ e. IfFault e (λ h. StopsAt alphabet g ts h.left))
+    pub stops : {X : Type 0} (view : X → A) (r : Result X (Failure Fault)) (ts : List T) → Returns view r (whole_of extra (f ts)) → IfErr r (λ e. IfFault e (λ h. StopsAt alphabet g ts h.left))
     stops view (Ok x) ts d = tt
     stops view (Err errors.NoMemory) ts d = tt
     stops view (Err (errors.Fault h)) ts d = whole_stops ts h d
@@ -166,7 +166,7 @@ module _ {T : Type 0} (alphabet : Alphabet T) where
     kind_result ts e (Ok x) h d = kind_ended ts x.1 x.0 e h d
     kind_result ts e (Err e') h d = subst (λ (x : Fault). FitsKind alphabet g ts x.left x.kind) (wrong_is e' e d) (kind_err ts e' h)
 
-    pub kind : {X : Type 0} (view : X → A) (r : Result X (Failure Fault)) (ts : List T) → Gives view r (whole_of extra (f ts)) → IfErr r (λ e. IfFault e (λ h. FitsKind alphabet g ts h.left h.kind))
+    pub kind : {X : Type 0} (view : X → A) (r : Result X (Failure Fault)) (ts : List T) → Returns view r (whole_of extra (f ts)) → IfErr r (λ e. IfFault e (λ h. FitsKind alphabet g ts h.left h.kind))
     kind view (Ok x) ts d = tt
     kind view (Err errors.NoMemory) ts d = tt
     kind view (Err (errors.Fault h)) ts d = kind_result ts h (f ts) refl d

@@ -1,7 +1,7 @@
 -- Groups in brackets: each closes by its own kind; `<` and `>` are no brackets.
 use Rattle.std.specs.Prelude.{Bool, true, false, [], ◌∷◌}
-use Rattle.ir_lex.specs.declared.head.Head.TheVariants as heads
-use Rattle.ir_lex.specs.declared.head.Head.{Head}
+use Rattle.ir_lex.specs.declared.token_kind.TokenKind.TheVariants as kinds
+use Rattle.ir_lex.specs.declared.token_kind.TokenKind.{TokenKind}
 use Rattle.ir_lex.specs.Tok.{Tok}
 use Rattle.ir_read.specs.Balanced as balanced
 use Rattle.ir_read.specs.Balanced.{Brackets, Closing, closing_at, Move}
@@ -13,18 +13,18 @@ use Rattle.ir_read.specs.Classes.{the, the_at}
 use Rattle.ir_read.specs.declared.brackets.Bracket.{Bracket}
 use Rattle.ir_read.specs.declared.brackets.Bracket.TheVariants.{Paren, Square, Curly}
 
-abbrev pub opening : Bracket → Head
-opening Paren = heads.OpenParen
-opening Square = heads.OpenBracket
-opening Curly = heads.OpenBrace
+abbrev pub opening : Bracket → TokenKind
+opening Paren = kinds.OpenParen
+opening Square = kinds.OpenBracket
+opening Curly = kinds.OpenBrace
 
-abbrev pub move_of : Head → Move Bracket
-move_of heads.OpenParen = balanced.opens Paren
-move_of heads.OpenBracket = balanced.opens Square
-move_of heads.OpenBrace = balanced.opens Curly
-move_of heads.CloseParen = balanced.closes Paren
-move_of heads.CloseBracket = balanced.closes Square
-move_of heads.CloseBrace = balanced.closes Curly
+abbrev pub move_of : TokenKind → Move Bracket
+move_of kinds.OpenParen = balanced.opens Paren
+move_of kinds.OpenBracket = balanced.opens Square
+move_of kinds.OpenBrace = balanced.opens Curly
+move_of kinds.CloseParen = balanced.closes Paren
+move_of kinds.CloseBracket = balanced.closes Square
+move_of kinds.CloseBrace = balanced.closes Curly
 move_of h = balanced.stays
 
 abbrev pub same : Bracket → Bracket → Bool
@@ -34,7 +34,7 @@ same Curly Curly = true
 same a b = false
 
 abbrev pub brackets : Brackets Tok Bracket
-brackets = record { move = λ t. move_of t.head; same = same }
+brackets = record { move = λ t. move_of t.kind; same = same }
 
 -- a bracket, what stands in it, and what closes it
 unfoldable pub group : Bracket → Form Tok (Unit {0})

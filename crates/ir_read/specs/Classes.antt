@@ -1,8 +1,8 @@
 -- Tokens as the grammar of modules sees them: the class of each, and why one can't stand where it isn't wanted.
 use Rattle.std.specs.Prelude.{◌≡◌, ℕ, true, false, nat_lt, if◌then◌else◌, List, [], ◌∷◌, ◌++◌, length}
-use Rattle.ir_lex.specs.declared.head.Head.TheVariants as heads
-use Rattle.ir_lex.specs.declared.head.Head.{Head}
-use Rattle.ir_lex.specs.Heads.{number, head_of}
+use Rattle.ir_lex.specs.declared.token_kind.TokenKind.TheVariants as kinds
+use Rattle.ir_lex.specs.declared.token_kind.TokenKind.{TokenKind}
+use Rattle.ir_lex.specs.TokenKinds.{number, kind_of}
 use Rattle.ir_lex.specs.Lexing.{is_bad}
 use Rattle.ir_lex.specs.Rows.{best_fit, fit}
 use Rattle.ir_lex.specs.Tok.{Tok}
@@ -17,33 +17,33 @@ use Rattle.ir_read.specs.Rules.{is_class, is_among}
 pub record IsReal (t : Tok) : Type 0 where
   pub behind : List ℕ
   pub some : nat_lt 0 (length t.text) ≡ true
-  pub fits : best_fit (t.text ++ behind) ≡ fit t.kind (length t.text)
+  pub fits : best_fit (t.text ++ behind) ≡ fit t.form (length t.text)
   pub good : is_bad (t.text ++ behind) ≡ false
-  pub class : t.head ≡ head_of t.kind t.text behind
+  pub class : t.kind ≡ kind_of t.form t.text behind
 
 -- these are written by numbers, or may be
 abbrev pub NUMERALS : List ℕ
-NUMERALS = number heads.Number ∷ number heads.Local ∷ number heads.Label ∷ number heads.Group ∷ number heads.NumberedGlobal ∷ number heads.NumberedDefinition ∷ []
+NUMERALS = number kinds.Number ∷ number kinds.Local ∷ number kinds.Label ∷ number kinds.Group ∷ number kinds.NumberedGlobal ∷ number kinds.NumberedDefinition ∷ []
 
 -- and of these this one is no name
 abbrev pub LITERALS : List ℕ
-LITERALS = number heads.Number ∷ []
+LITERALS = number kinds.Number ∷ []
 
 abbrev pub tokens : Alphabet Tok
-tokens = record { class = λ t. number t.head; numerals = NUMERALS; literals = LITERALS; Real = IsReal }
+tokens = record { class = λ t. number t.kind; numerals = NUMERALS; literals = LITERALS; Real = IsReal }
 
 -- these stand for parts of the language that aren't read
 abbrev pub REFUSED : List ℕ
-REFUSED = number heads.ReservedGlobal ∷ number heads.LifetimeMarker ∷ number heads.RefusedMark ∷ number heads.RefusedInteger ∷ number heads.RefusedAttribute ∷ number heads.RefusedWord ∷ []
+REFUSED = number kinds.ReservedGlobal ∷ number kinds.LifetimeMarker ∷ number kinds.RefusedMark ∷ number kinds.RefusedInteger ∷ number kinds.RefusedAttribute ∷ number kinds.RefusedWord ∷ []
 
 abbrev pub refusal : ℕ → TokenFault
 refusal class = if contains REFUSED class then Profile else Syntax
 
 -- a token of this class
-abbrev pub the : Head → Form Tok (Unit {0})
+abbrev pub the : TokenKind → Form Tok (Unit {0})
 the wanted = token (is_class tokens refusal (number wanted))
 
-abbrev pub the_at : Head → Reader Tok (Unit {0})
+abbrev pub the_at : TokenKind → Reader Tok (Unit {0})
 the_at wanted = token_at (is_class tokens refusal (number wanted))
 
 -- a token of one of these classes, and what it means
@@ -58,6 +58,6 @@ abbrev pub itself : Tok → Tok
 itself t = t
 
 -- the next of these tokens is of this class
-abbrev pub NextHead : List Tok → Head → Type 0
+abbrev pub NextHead : List Tok → TokenKind → Type 0
 NextHead [] h = ⊥
-NextHead (t ∷ ts) h = t.head ≡ h
+NextHead (t ∷ ts) h = t.kind ≡ h

@@ -1,8 +1,8 @@
 -- Numbers as they are written in digits, and the alignments among them.
 use Rattle.std.specs.Prelude.{ℕ, ◌+◌, ◌-◌, ◌*◌, ◌&&◌, not, nat_eq, if◌then◌else◌, Result, Ok, Err, List, [], ◌∷◌}
 use Rattle.std.specs.List.{fold}
-use Rattle.ir_lex.specs.declared.head.Head.TheVariants as heads
-use Rattle.ir_lex.specs.Heads.{number}
+use Rattle.ir_lex.specs.declared.token_kind.TokenKind.TheVariants as kinds
+use Rattle.ir_lex.specs.TokenKinds.{number}
 use Rattle.ir_lex.specs.Rows.{begins}
 use Rattle.ir_lex.specs.Tok.{Tok}
 use Rattle.ir_read.specs.Alphabet.{contains}
@@ -26,4 +26,4 @@ alignment_of text = if contains ALIGNMENTS (decimal text) && not (begins 45 text
 
 -- an alignment in bytes (LangRef, "Load Instruction")
 unfoldable pub is_alignment : Tok → Result ℕ TokenFault
-is_alignment t = if nat_eq (number t.head) (number heads.Number) then alignment_of t.text else Err (refusal (number t.head))
+is_alignment t = if nat_eq (number t.kind) (number kinds.Number) then alignment_of t.text else Err (refusal (number t.kind))

@@ -1,7 +1,7 @@
 -- Metadata: nodes, attachments and lines (LangRef, "Metadata").
 use Rattle.std.specs.Prelude.{ℕ, Bool, true, false, ◌&&◌, if◌then◌else◌, List, [], ◌∷◌}
-use Rattle.ir_lex.specs.declared.head.Head.TheVariants as heads
-use Rattle.ir_lex.specs.Heads.{number}
+use Rattle.ir_lex.specs.declared.token_kind.TokenKind.TheVariants as kinds
+use Rattle.ir_lex.specs.TokenKinds.{number}
 use Rattle.ir_lex.specs.Tok.{Tok}
 use Rattle.ir_read.specs.Balanced.{Move, opens, closes, stays, none_open}
 use Rattle.ir_read.specs.Forms.{Form, ◌>>=◌, either, gives, optional, Star}
@@ -13,7 +13,7 @@ use Rattle.ir_read.specs.declared.brackets.Bracket.TheVariants.{Paren, Curly}
 
 -- a name of metadata, or a ! alone
 abbrev pub META : List ℕ
-META = number heads.Meta ∷ number heads.Bang ∷ []
+META = number kinds.Meta ∷ number kinds.Bang ∷ []
 
 abbrev pub ends_line : Tok → Bool
 ends_line t = t.ends_line
@@ -22,11 +22,11 @@ ends_line t = t.ends_line
 unfoldable pub node : Form Tok (Unit {0})
 node = either
     (do
-      _ ← the heads.Meta
+      _ ← the kinds.Meta
       _ ← optional (group Paren)
       gives tt)
     (do
-      _ ← the heads.Bang
+      _ ← the kinds.Bang
       either (group Curly) (group Paren))
 
 -- Meta node
@@ -38,7 +38,7 @@ attached = do
 -- , Meta node
 unfoldable pub attachment : Form Tok (Unit {0})
 attachment = do
-  _ ← the heads.Comma
+  _ ← the kinds.Comma
   attached
 
 unfoldable pub attachments : Form Tok (Unit {0})
@@ -62,7 +62,7 @@ ended_by ends last = last
 ended_by ends (onward bs) = if ends && none_open bs then last else onward bs
 
 abbrev pub line_step : List Bracket → Tok → Step (List Bracket)
-line_step bs t = ended_by t.ends_line (open_behind (move_of t.head) bs)
+line_step bs t = ended_by t.ends_line (open_behind (move_of t.kind) bs)
 
 abbrev pub rest_of_line : Bool → Form Tok (Unit {0})
 rest_of_line true = gives tt

@@ -1,7 +1,7 @@
 -- What the readers of metadata give.
 use Rattle.std.specs.Prelude.{ℕ, Bool, true, false, List, [], ◌∷◌}
-use Rattle.ir_lex.specs.declared.head.Head.TheVariants as heads
-use Rattle.ir_lex.specs.Heads.{number}
+use Rattle.ir_lex.specs.declared.token_kind.TokenKind.TheVariants as kinds
+use Rattle.ir_lex.specs.TokenKinds.{number}
 use Rattle.ir_lex.specs.Tok.{Tok}
 use Rattle.ir_read.specs.Alphabet.{among}
 use Rattle.ir_read.specs.Readers.{Reader, ◌>>=◌, done, pick, star_at, optional_at}
@@ -12,25 +12,25 @@ use Rattle.ir_read.specs.Metadata.{META, line_step, ends_line}
 use Rattle.ir_read.specs.declared.brackets.Bracket.TheVariants.{Paren, Curly}
 
 abbrev pub PAREN : List ℕ
-PAREN = number heads.OpenParen ∷ []
+PAREN = number kinds.OpenParen ∷ []
 
 abbrev pub CURLY : List ℕ
-CURLY = number heads.OpenBrace ∷ []
+CURLY = number kinds.OpenBrace ∷ []
 
 abbrev pub NAMED : List ℕ
-NAMED = number heads.Meta ∷ []
+NAMED = number kinds.Meta ∷ []
 
 abbrev pub COMMA : List ℕ
-COMMA = number heads.Comma ∷ []
+COMMA = number kinds.Comma ∷ []
 
 unfoldable pub node_at : Reader Tok (Unit {0})
 node_at = pick (among tokens NAMED)
     (do
-      _ ← the_at heads.Meta
+      _ ← the_at kinds.Meta
       _ ← optional_at (among tokens PAREN) (group_at Paren)
       done tt)
     (do
-      _ ← the_at heads.Bang
+      _ ← the_at kinds.Bang
       pick (among tokens CURLY) (group_at Curly) (group_at Paren))
 
 unfoldable pub attached_at : Reader Tok (Unit {0})
@@ -40,7 +40,7 @@ attached_at = do
 
 unfoldable pub attachment_at : Reader Tok (Unit {0})
 attachment_at = do
-  _ ← the_at heads.Comma
+  _ ← the_at kinds.Comma
   attached_at
 
 unfoldable pub attachments_at : Reader Tok (Unit {0})

@@ -1,8 +1,8 @@
 -- Metadata behind the head of a declaration: a name with a node belongs to the head; without one it begins a line (LangRef,
 -- "Metadata", "Functions").
 use Rattle.std.specs.Prelude.{ℕ, Bool, true, false, if◌then◌else◌, Option, None, Result, Ok, Err, List, [], ◌∷◌}
-use Rattle.ir_lex.specs.declared.head.Head.TheVariants as heads
-use Rattle.ir_lex.specs.Heads.{number}
+use Rattle.ir_lex.specs.declared.token_kind.TokenKind.TheVariants as kinds
+use Rattle.ir_lex.specs.TokenKinds.{number}
 use Rattle.ir_lex.specs.Tok.{Tok}
 use Rattle.ir_read.specs.Alphabet.{among, contains}
 use Rattle.ir_read.specs.declared.fault.TokenFault.{TokenFault}
@@ -19,10 +19,10 @@ use Rattle.ir_read.specs.Metadata.{META, ends_line, line_step}
 
 -- what begins a node behind a name of metadata, and behind a ! alone
 abbrev pub BANG : List ℕ
-BANG = number heads.Bang ∷ []
+BANG = number kinds.Bang ∷ []
 
 abbrev pub BRACES : List ℕ
-BRACES = number heads.OpenBrace ∷ number heads.OpenParen ∷ []
+BRACES = number kinds.OpenBrace ∷ number kinds.OpenParen ∷ []
 
 -- ---- a line that goes on, but not with one of these tokens
 
@@ -49,7 +49,7 @@ goes_on_but apart = do
 -- Meta [ (..) ]: a node
 unfoldable pub named_node : Form Tok Before
 named_node = do
-  _ ← the heads.Meta
+  _ ← the kinds.Meta
   _ ← optional (group Paren)
   gives befores.Declaration
 

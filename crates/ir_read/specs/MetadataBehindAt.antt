@@ -1,7 +1,7 @@
 -- What the readers of metadata behind a declaration's head give.
 use Rattle.std.specs.Prelude.{ℕ, Bool, true, false, List, [], ◌∷◌}
-use Rattle.ir_lex.specs.declared.head.Head.TheVariants as heads
-use Rattle.ir_lex.specs.Heads.{number}
+use Rattle.ir_lex.specs.declared.token_kind.TokenKind.TheVariants as kinds
+use Rattle.ir_lex.specs.TokenKinds.{number}
 use Rattle.ir_lex.specs.Tok.{Tok}
 use Rattle.ir_read.specs.Alphabet.{among}
 use Rattle.ir_read.specs.Readers.{Reader, ◌>>=◌, done, pick, optional_at, token_at}
@@ -28,7 +28,7 @@ goes_on_but_at apart = do
 
 unfoldable pub named_node_at : Reader Tok Before
 named_node_at = do
-  _ ← the_at heads.Meta
+  _ ← the_at kinds.Meta
   _ ← optional_at (among tokens PAREN) (group_at Paren)
   done befores.Declaration
 

@@ -2,9 +2,9 @@
 use Rattle.std.specs.Prelude.{ℕ, Bool, true, false, ◌&&◌, not, nat_eq, nat_lt, max, min, if◌then◌else◌, Option, Some, None, option_map, Result, Err, List, [], ◌∷◌, drop}
 use Rattle.std.specs.Char.{is_ascii_digit}
 use Rattle.std.specs.List.{list_all}
-use Rattle.ir_lex.specs.declared.head.Head.{Head}
-use Rattle.ir_lex.specs.declared.head.Head.TheVariants as heads
-use Rattle.ir_lex.specs.Heads.{number, width_of}
+use Rattle.ir_lex.specs.declared.token_kind.TokenKind.{TokenKind}
+use Rattle.ir_lex.specs.declared.token_kind.TokenKind.TheVariants as kinds
+use Rattle.ir_lex.specs.TokenKinds.{number, width_of}
 use Rattle.ir_lex.specs.Quotes.{stripped}
 use Rattle.ir_lex.specs.Tok.{Tok}
 use Rattle.ir_tree.specs.declared.operand.Reg.{Reg}
@@ -23,17 +23,17 @@ use Rattle.ir_read.specs.Literals.{IsWidth, literal}
 -- ---- types of registers
 
 abbrev pub INTEGER : List ℕ
-INTEGER = number heads.MemoryInteger ∷ number heads.RegisterInteger ∷ []
+INTEGER = number kinds.MemoryInteger ∷ number kinds.RegisterInteger ∷ []
 
 abbrev pub REG : List ℕ
-REG = number heads.MemoryInteger ∷ number heads.RegisterInteger ∷ number heads.Ptr ∷ []
+REG = number kinds.MemoryInteger ∷ number kinds.RegisterInteger ∷ number kinds.Ptr ∷ []
 
 abbrev pub SCALAR : List ℕ
-SCALAR = number heads.MemoryInteger ∷ number heads.Ptr ∷ []
+SCALAR = number kinds.MemoryInteger ∷ number kinds.Ptr ∷ []
 
 -- types that are left out
 abbrev pub REFUSED_TYPES : List ℕ
-REFUSED_TYPES = number heads.Target ∷ number heads.RefusedType ∷ []
+REFUSED_TYPES = number kinds.Target ∷ number kinds.RefusedType ∷ []
 
 -- where a type may stand
 abbrev pub type_refusal : ℕ → TokenFault
@@ -41,14 +41,14 @@ type_refusal class = if contains REFUSED_TYPES class then Profile else refusal c
 
 -- where a type of memory must stand
 abbrev pub memory_refusal : ℕ → TokenFault
-memory_refusal class = if nat_eq class (number heads.RegisterInteger) then Profile else type_refusal class
+memory_refusal class = if nat_eq class (number kinds.RegisterInteger) then Profile else type_refusal class
 
 -- the width of iN, where the class has it that N is 1 to 64
 abbrev pub width : Tok → ℕ
 width t = min 64 (max 1 (width_of (drop 1 t.text)))
 
 abbrev pub reg_of : Tok → Reg
-reg_of t = if nat_eq (number t.head) (number heads.Ptr) then Ptr else Int (width t)
+reg_of t = if nat_eq (number t.kind) (number kinds.Ptr) then Ptr else Int (width t)
 
 abbrev pub IsReg : Reg → Type 0
 IsReg (Int w) = IsWidth w
@@ -75,10 +75,10 @@ scalar = token (is_among tokens memory_refusal SCALAR reg_of)
 
 -- void / reg
 abbrev pub RESULT : List ℕ
-RESULT = number heads.Void ∷ REG
+RESULT = number kinds.Void ∷ REG
 
 abbrev pub result_of : Tok → Option Reg
-result_of t = if nat_eq (number t.head) (number heads.Void) then None else Some (reg_of t)
+result_of t = if nat_eq (number t.kind) (number kinds.Void) then None else Some (reg_of t)
 
 abbrev pub result : Form Tok (Option Reg)
 result = token (is_among tokens type_refusal RESULT result_of)
@@ -94,34 +94,34 @@ abbrev pub named_by : Tok → List ℕ → Option Tok
 named_by t bare = if is_numeral bare && not (nat_lt (decimal bare) 4294967296) then None else Some t
 
 unfoldable pub named : Tok → Option Tok
-named t = named_by t (stripped t.kind t.text)
+named t = named_by t (stripped t.form t.text)
 
 -- the same of an attribute group, which a number behind a mark writes
 unfoldable pub group_named : Tok → Option Tok
 group_named t = named_by t (drop 1 t.text)
 
 abbrev pub LOCAL : List ℕ
-LOCAL = number heads.Local ∷ []
+LOCAL = number kinds.Local ∷ []
 
 abbrev pub local : Form Tok Tok
 local = token (is_valued tokens refusal LOCAL named)
 
 -- the same of a global, of which only some are written by numbers
-abbrev pub global_by : Head → Tok → Option Tok
-global_by heads.NumberedGlobal t = named t
-global_by heads.NumberedDefinition t = named t
+abbrev pub global_by : TokenKind → Tok → Option Tok
+global_by kinds.NumberedGlobal t = named t
+global_by kinds.NumberedDefinition t = named t
 global_by h t = Some t
 
 abbrev pub global_named : Tok → Option Tok
-global_named t = global_by t.head t
+global_named t = global_by t.kind t
 
 -- ---- operands
 
 abbrev pub POINTER_OPERAND : List ℕ
-POINTER_OPERAND = number heads.Local ∷ number heads.True ∷ number heads.False ∷ number heads.Null ∷ number heads.Poison ∷ number heads.Global ∷ number heads.NumberedGlobal ∷ number heads.NumberedDefinition ∷ []
+POINTER_OPERAND = number kinds.Local ∷ number kinds.True ∷ number kinds.False ∷ number kinds.Null ∷ number kinds.Poison ∷ number kinds.Global ∷ number kinds.NumberedGlobal ∷ number kinds.NumberedDefinition ∷ []
 
 abbrev pub NUMBER_OPERAND : List ℕ
-NUMBER_OPERAND = number heads.Number ∷ POINTER_OPERAND
+NUMBER_OPERAND = number kinds.Number ∷ POINTER_OPERAND
 
 -- no number is of type ptr
 abbrev pub classes_of : Reg → List ℕ
@@ -133,20 +133,20 @@ bits_of (Int w) t = option_map (operands.Number w) (literal w t.text)
 bits_of Ptr t = None
 
 -- what a token of such a class means, by its class
-abbrev pub operand_by : Head → Reg → Tok → Option Operand
-operand_by heads.Number r t = bits_of r t
-operand_by heads.Local r t = option_map operands.Local (named t)
-operand_by heads.True r t = Some (operands.Number 1 1)
-operand_by heads.False r t = Some (operands.Number 1 0)
-operand_by heads.Null r t = Some operands.Null
-operand_by heads.Poison r t = Some (operands.Poison r)
-operand_by heads.Global r t = Some (operands.Global t)
-operand_by heads.NumberedGlobal r t = option_map operands.Global (named t)
-operand_by heads.NumberedDefinition r t = option_map operands.Global (named t)
+abbrev pub operand_by : TokenKind → Reg → Tok → Option Operand
+operand_by kinds.Number r t = bits_of r t
+operand_by kinds.Local r t = option_map operands.Local (named t)
+operand_by kinds.True r t = Some (operands.Number 1 1)
+operand_by kinds.False r t = Some (operands.Number 1 0)
+operand_by kinds.Null r t = Some operands.Null
+operand_by kinds.Poison r t = Some (operands.Poison r)
+operand_by kinds.Global r t = Some (operands.Global t)
+operand_by kinds.NumberedGlobal r t = option_map operands.Global (named t)
+operand_by kinds.NumberedDefinition r t = option_map operands.Global (named t)
 operand_by h r t = None
 
 abbrev pub operand_of : Reg → Tok → Option Operand
-operand_of r t = operand_by t.head r t
+operand_of r t = operand_by t.kind r t
 
 abbrev pub number_means : Reg → Tok → Result Operand TokenFault
 number_means (Int w) t = in_range (bits_of (Int w) t)
@@ -164,7 +164,7 @@ simple r = token (is_valued tokens refusal (classes_of r) (operand_of r))
 
 -- ---- words that may stand or not
 
-abbrev pub maybe : Head → Form Tok Bool
+abbrev pub maybe : TokenKind → Form Tok Bool
 maybe word = either
     (do
       _ ← the word

@@ -1,7 +1,7 @@
 -- What the readers of types, names and operands give.
 use Rattle.std.specs.Prelude.{ℕ, Bool, true, false, Option, List, [], ◌∷◌}
-use Rattle.ir_lex.specs.declared.head.Head.{Head}
-use Rattle.ir_lex.specs.Heads.{number}
+use Rattle.ir_lex.specs.declared.token_kind.TokenKind.{TokenKind}
+use Rattle.ir_lex.specs.TokenKinds.{number}
 use Rattle.ir_lex.specs.Tok.{Tok}
 use Rattle.ir_tree.specs.declared.operand.Reg.{Reg}
 use Rattle.ir_read.specs.Alphabet.{among}
@@ -32,7 +32,7 @@ local_at = token_at (is_valued tokens refusal LOCAL named)
 abbrev pub simple_at : Reg → Reader Tok Operand
 simple_at r = token_at (is_valued tokens refusal (classes_of r) (operand_of r))
 
-abbrev pub maybe_at : Head → Reader Tok Bool
+abbrev pub maybe_at : TokenKind → Reader Tok Bool
 maybe_at word = pick (among tokens (number word ∷ []))
     (do
       _ ← the_at word

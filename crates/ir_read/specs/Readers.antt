@@ -48,9 +48,9 @@ abbrev pub Fails : {Y : Type 0} → Failure Fault → Result Y Fault → Type 0
 Fails errors.NoMemory read = Unit {0}
 Fails (errors.Fault f) read = read ≡ Err f
 
-abbrev pub Gives : {X Y : Type 0} → (X → Y) → Result X (Failure Fault) → Result Y Fault → Type 0
-Gives view (Ok x) read = read ≡ Ok (view x)
-Gives view (Err e) read = Fails e read
+abbrev pub Returns : {X Y : Type 0} → (X → Y) → Result X (Failure Fault) → Result Y Fault → Type 0
+Returns view (Ok x) read = read ≡ Ok (view x)
+Returns view (Err e) read = Fails e read
 
 abbrev pub view_result : {X Y E : Type 0} → (X → Y) → Result X E → Result Y E
 view_result view (Ok x) = Ok (view x)

@@ -2,14 +2,14 @@
 
 ghost use Rattle.std.specs.Prelude.{◌≡◌, [], ◌∷◌};
 ghost use Rattle.ir_read.specs.Balanced.{closing_at};
-ghost use Rattle.ir_read.specs.Readers.{Gives};
+ghost use Rattle.ir_read.specs.Readers.{Returns};
 ghost use Rattle.ir_read.specs.Brackets.{brackets, group_at, opening, move_of, same};
 ghost use Rattle.ir_read.specs.BracketViews.{move};
 
 use crate::terminals::expect;
 use crate::tokens::Tokens;
-use crate::{Fault, ReadError, TokenFault};
-use ir_lex::Head;
+use crate::{Fault, ReaderError, TokenFault};
+use ir_lex::TokenKind;
 use std::alloc::Global;
 
 /// A kind of bracket.
@@ -33,13 +33,13 @@ pub enum BracketMove {
 
 impl Bracket {
     /// What opens it.
-    fn opening(self) -> Head
+    fn opening(self) -> TokenKind
         ensures { result ≡ opening self }
     {
         match self {
-            Bracket::Paren => Head::OpenParen,
-            Bracket::Square => Head::OpenBracket,
-            Bracket::Curly => Head::OpenBrace,
+            Bracket::Paren => TokenKind::OpenParen,
+            Bracket::Square => TokenKind::OpenBracket,
+            Bracket::Curly => TokenKind::OpenBrace,
         }
     }
 
@@ -55,44 +55,44 @@ impl Bracket {
     }
 }
 
-/// What a token of this class does to the brackets that are open.
-pub fn move_of(head: Head) -> BracketMove
+/// What a token of this kind does to the brackets that are open.
+pub fn move_of(head: TokenKind) -> BracketMove
     ensures { move result ≡ move_of head }
 {
     match head {
-        Head::OpenParen => BracketMove::Opens(Bracket::Paren),
-        Head::OpenBracket => BracketMove::Opens(Bracket::Square),
-        Head::OpenBrace => BracketMove::Opens(Bracket::Curly),
-        Head::CloseParen => BracketMove::Closes(Bracket::Paren),
-        Head::CloseBracket => BracketMove::Closes(Bracket::Square),
-        Head::CloseBrace => BracketMove::Closes(Bracket::Curly),
+        TokenKind::OpenParen => BracketMove::Opens(Bracket::Paren),
+        TokenKind::OpenBracket => BracketMove::Opens(Bracket::Square),
+        TokenKind::OpenBrace => BracketMove::Opens(Bracket::Curly),
+        TokenKind::CloseParen => BracketMove::Closes(Bracket::Paren),
+        TokenKind::CloseBracket => BracketMove::Closes(Bracket::Square),
+        TokenKind::CloseBrace => BracketMove::Closes(Bracket::Curly),
         _ => BracketMove::Stays,
     }
 }
 
 /// Reads what stands behind a bracket that is open, up to what closes it. The brackets around the
 /// innermost are kept, the outermost first.
-fn closing_at(alloc: Global, bracket: Bracket, tokens: &mut Tokens) -> Result<(), ReadError>
-    ensures { Gives (λ x. (tt, tokens.new)) result (closing_at brackets (bracket ∷ []) tokens.old) }
+fn closing_at(alloc: Global, bracket: Bracket, tokens: &mut Tokens) -> Result<(), ReaderError>
+    ensures { Returns (λ x. (tt, tokens.new)) result (closing_at brackets (bracket ∷ []) tokens.old) }
 {
     let mut inner = bracket;
     let mut outer = Vec::new(alloc);
     'each: loop {
         let left = tokens.left();
         let Some(t) = tokens.take() else {
-            return Err(ReadError::Fault(Fault {
+            return Err(ReaderError::Fault(Fault {
                 left,
                 kind: TokenFault::Syntax,
             }));
         };
-        match move_of(t.head) {
+        match move_of(t.kind) {
             BracketMove::Opens(b) => {
                 outer.push(inner)?;
                 inner = b;
             }
             BracketMove::Closes(b) => {
                 if !inner.same(b) {
-                    return Err(ReadError::Fault(Fault {
+                    return Err(ReaderError::Fault(Fault {
                         left,
                         kind: TokenFault::Syntax,
                     }));
@@ -109,8 +109,8 @@ fn closing_at(alloc: Global, bracket: Bracket, tokens: &mut Tokens) -> Result<()
 
 /// Reads a group in brackets of this kind.
 #[tactic(auto, unfolding(crate::specs::Brackets::group_at))]
-pub fn group_at(alloc: Global, bracket: Bracket, tokens: &mut Tokens) -> Result<(), ReadError>
-    ensures { Gives (λ x. (tt, tokens.new)) result (group_at bracket tokens.old) }
+pub fn group_at(alloc: Global, bracket: Bracket, tokens: &mut Tokens) -> Result<(), ReaderError>
+    ensures { Returns (λ x. (tt, tokens.new)) result (group_at bracket tokens.old) }
 {
     expect(bracket.opening(), tokens)?;
     closing_at(alloc, bracket, tokens)

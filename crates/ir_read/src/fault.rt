@@ -24,4 +24,4 @@ pub struct Fault {
 }
 
 /// Why a reader gave up.
-pub type ReadError = Failure<Fault>;
+pub type ReaderError = Failure<Fault>;

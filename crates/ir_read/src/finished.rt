@@ -5,10 +5,10 @@
 
 ghost use Rattle.std.specs.Prelude.{◌≡◌, Ok};
 
-use crate::ReadError;
+use crate::ReaderError;
 
 /// What was read.
-pub fn done<T>(value: T) -> Result<T, ReadError>
+pub fn done<T>(value: T) -> Result<T, ReaderError>
     ensures { result ≡ Ok value }
 {
     Ok(value)

@@ -8,7 +8,7 @@
 //! however deep, and metadata, which is dropped. A name is its token with a copy of the bytes, so the tree borrows
 //! nothing. Nothing is resolved: a type name may have no definition, and a local may stand for nothing.
 //!
-//! **Promise.** A reader gives what the reader on lists of its name gives (`Gives`, `specs/Readers`), as [`simple_at`]
+//! **Promise.** A reader gives what the reader on lists of its name gives (`Returns`, `specs/Readers`), as [`simple_at`]
 //! (`specs/OperandsAt`) and [`attachments_at`] (`specs/MetadataAt`): the value with the tokens that are left, or the
 //! fault and how many tokens are left at it. A reader on lists that is `Lawful` (`specs/Lawful`) reads its form, and
 //! stops at the first token at which no reading goes on; each way of putting forms together keeps this. [`literal`]
@@ -40,7 +40,7 @@ mod tokens;
 
 pub use address::{Address, Index, Level, Steps};
 pub use brackets::{Bracket, BracketMove, group_at, move_of};
-pub use fault::{Fault, ReadError, TokenFault};
+pub use fault::{Fault, ReaderError, TokenFault};
 pub use finished::done;
 pub use laws::{groups, listing_examples, listing_faults, listing_is_read, listing_rule};
 pub use literals::literal;
@@ -54,8 +54,8 @@ pub use operands::{
 };
 pub use places::{Before, Position};
 pub use raw::{
-    Argument, Block, Case, Head, Incoming, Init, InitHead, InitPart, Instr, Item, Line, Operand,
-    Param, Terminator, Variable,
+    Argument, Block, Case, FunctionHeader, Incoming, Init, InitHead, InitPart, Instr, Item,
+    Operand, Param, Terminator, Variable, WrittenLine,
 };
 pub use shape::{Shape, ShapeNode, Typed};
 pub use terminals::{expect, refusal};

@@ -2,7 +2,7 @@
 
 ghost use Rattle.std.specs.Prelude.{◌≡◌};
 ghost use Rattle.ir_read.specs.Alphabet.{among};
-ghost use Rattle.ir_read.specs.Readers.{Gives, next_is};
+ghost use Rattle.ir_read.specs.Readers.{Returns, next_is};
 ghost use Rattle.ir_read.specs.Classes.{tokens, one_of_at};
 ghost use Rattle.ir_read.specs.Metadata.{META, ends_line};
 ghost use Rattle.ir_read.specs.MetadataAt.{node_at, attached_at, attachment_at, attachments_at, rest_of_line_at, metadata_line_at};
@@ -10,28 +10,28 @@ ghost use Rattle.ir_read.specs.MetadataAt.{node_at, attached_at, attachment_at, 
 use crate::brackets::{Bracket, BracketMove, group_at, move_of};
 use crate::terminals::{expect, refusal};
 use crate::tokens::Tokens;
-use crate::{Fault, ReadError, TokenFault};
-use ir_lex::Head;
+use crate::{Fault, ReaderError, TokenFault};
+use ir_lex::TokenKind;
 use std::alloc::Global;
 
 /// Takes a name of metadata or a `!`; the answer is whether its line ends behind it.
 #[tactic(auto, unfolding(crate::specs::Rules::is_among))]
-pub fn meta_at(tokens: &mut Tokens) -> Result<bool, ReadError>
-    ensures { Gives (λ x. (x, tokens.new)) result (one_of_at META ends_line tokens.old) }
+pub fn meta_at(tokens: &mut Tokens) -> Result<bool, ReaderError>
+    ensures { Returns (λ x. (x, tokens.new)) result (one_of_at META ends_line tokens.old) }
 {
     let left = tokens.left();
     match tokens.take() {
-        None => Err(ReadError::Fault(Fault {
+        None => Err(ReaderError::Fault(Fault {
             left,
             kind: TokenFault::Syntax,
         })),
         Some(t) => {
-            if matches!(t.head, Head::Meta | Head::Bang) {
+            if matches!(t.kind, TokenKind::Meta | TokenKind::Bang) {
                 Ok(t.ends_line)
             } else {
-                Err(ReadError::Fault(Fault {
+                Err(ReaderError::Fault(Fault {
                     left,
-                    kind: refusal(t.head),
+                    kind: refusal(t.kind),
                 }))
             }
         }
@@ -40,18 +40,18 @@ pub fn meta_at(tokens: &mut Tokens) -> Result<bool, ReadError>
 
 /// Reads a node: `!4`, `!DIExpression()`, `!{ .. }`, `!(..)`.
 #[tactic(auto, unfolding(crate::specs::MetadataAt::node_at))]
-fn node_at(alloc: Global, tokens: &mut Tokens) -> Result<(), ReadError>
-    ensures { Gives (λ x. (tt, tokens.new)) result (node_at tokens.old) }
+fn node_at(alloc: Global, tokens: &mut Tokens) -> Result<(), ReaderError>
+    ensures { Returns (λ x. (tt, tokens.new)) result (node_at tokens.old) }
 {
-    if tokens.comes(Head::Meta) {
-        expect(Head::Meta, tokens)?;
-        if tokens.comes(Head::OpenParen) {
+    if tokens.comes(TokenKind::Meta) {
+        expect(TokenKind::Meta, tokens)?;
+        if tokens.comes(TokenKind::OpenParen) {
             group_at(alloc, Bracket::Paren, tokens)?;
         }
         Ok(())
     } else {
-        expect(Head::Bang, tokens)?;
-        if tokens.comes(Head::OpenBrace) {
+        expect(TokenKind::Bang, tokens)?;
+        if tokens.comes(TokenKind::OpenBrace) {
             group_at(alloc, Bracket::Curly, tokens)
         } else {
             group_at(alloc, Bracket::Paren, tokens)
@@ -61,8 +61,8 @@ fn node_at(alloc: Global, tokens: &mut Tokens) -> Result<(), ReadError>
 
 /// Reads an attachment without its comma: `!dbg !4`.
 #[tactic(auto, unfolding(crate::specs::MetadataAt::attached_at))]
-pub fn attached_at(alloc: Global, tokens: &mut Tokens) -> Result<(), ReadError>
-    ensures { Gives (λ x. (tt, tokens.new)) result (attached_at tokens.old) }
+pub fn attached_at(alloc: Global, tokens: &mut Tokens) -> Result<(), ReaderError>
+    ensures { Returns (λ x. (tt, tokens.new)) result (attached_at tokens.old) }
 {
     meta_at(tokens)?;
     node_at(alloc, tokens)
@@ -70,19 +70,19 @@ pub fn attached_at(alloc: Global, tokens: &mut Tokens) -> Result<(), ReadError>
 
 /// Reads an attachment: `, !dbg !4`.
 #[tactic(auto, unfolding(crate::specs::MetadataAt::attachment_at))]
-fn attachment_at(alloc: Global, tokens: &mut Tokens) -> Result<(), ReadError>
-    ensures { Gives (λ x. (tt, tokens.new)) result (attachment_at tokens.old) }
+fn attachment_at(alloc: Global, tokens: &mut Tokens) -> Result<(), ReaderError>
+    ensures { Returns (λ x. (tt, tokens.new)) result (attachment_at tokens.old) }
 {
-    expect(Head::Comma, tokens)?;
+    expect(TokenKind::Comma, tokens)?;
     attached_at(alloc, tokens)
 }
 
 /// Reads all attachments that stand here.
 #[tactic(auto, unfolding(crate::specs::MetadataAt::attachments_at))]
-pub fn attachments_at(alloc: Global, tokens: &mut Tokens) -> Result<(), ReadError>
-    ensures { Gives (λ x. (tt, tokens.new)) result (attachments_at tokens.old) }
+pub fn attachments_at(alloc: Global, tokens: &mut Tokens) -> Result<(), ReaderError>
+    ensures { Returns (λ x. (tt, tokens.new)) result (attachments_at tokens.old) }
 {
-    'each: while tokens.comes(Head::Comma) {
+    'each: while tokens.comes(TokenKind::Comma) {
         attachment_at(alloc, tokens)?;
     }
     Ok(())
@@ -90,25 +90,25 @@ pub fn attachments_at(alloc: Global, tokens: &mut Tokens) -> Result<(), ReadErro
 
 /// Reads what stands behind a token of a line of metadata at whose end no bracket is open, unless the
 /// line ends there. The brackets that are open are kept, the outermost first.
-pub fn rest_of_line_at(alloc: Global, ends: bool, tokens: &mut Tokens) -> Result<(), ReadError>
-    ensures { Gives (λ x. (tt, tokens.new)) result (rest_of_line_at ends tokens.old) }
+pub fn rest_of_line_at(alloc: Global, ends: bool, tokens: &mut Tokens) -> Result<(), ReaderError>
+    ensures { Returns (λ x. (tt, tokens.new)) result (rest_of_line_at ends tokens.old) }
 {
     let mut open = Vec::new(alloc);
     let mut ended = ends;
     'each: while !ended {
         let left = tokens.left();
         let Some(t) = tokens.take() else {
-            return Err(ReadError::Fault(Fault {
+            return Err(ReaderError::Fault(Fault {
                 left,
                 kind: TokenFault::Syntax,
             }));
         };
-        match move_of(t.head) {
+        match move_of(t.kind) {
             BracketMove::Opens(b) => open.push(b)?,
             BracketMove::Closes(b) => match open.pop() {
                 Some(inner) if inner.same(b) => {}
                 _ => {
-                    return Err(ReadError::Fault(Fault {
+                    return Err(ReaderError::Fault(Fault {
                         left,
                         kind: TokenFault::Syntax,
                     }));
@@ -123,8 +123,8 @@ pub fn rest_of_line_at(alloc: Global, ends: bool, tokens: &mut Tokens) -> Result
 
 /// Reads a line of metadata: `!0 = !{i32 1}`, up to the first line end at which no bracket is open.
 #[tactic(auto, unfolding(crate::specs::MetadataAt::metadata_line_at))]
-pub fn metadata_line_at(alloc: Global, tokens: &mut Tokens) -> Result<(), ReadError>
-    ensures { Gives (λ x. (tt, tokens.new)) result (metadata_line_at tokens.old) }
+pub fn metadata_line_at(alloc: Global, tokens: &mut Tokens) -> Result<(), ReaderError>
+    ensures { Returns (λ x. (tt, tokens.new)) result (metadata_line_at tokens.old) }
 {
     let ends = meta_at(tokens)?;
     rest_of_line_at(alloc, ends, tokens)

@@ -2,7 +2,7 @@
 ghost use Rattle.std.specs.Prelude.{◌≡◌, IfOk};
 ghost use Rattle.ir_lex.specs.Tok.{tok};
 
-use ir_lex::{Head, Kind, Token};
+use ir_lex::{Token, TokenForm, TokenKind};
 use ir_tree::Text;
 use std::alloc::{AllocError, Global};
 use std::marker::Model;
@@ -14,8 +14,8 @@ use std::marker::Model;
 pub struct Name {
     text: Text,
     line: u32,
-    kind: Kind,
-    head: Head,
+    form: TokenForm,
+    kind: TokenKind,
     ends_line: bool,
 }
 
@@ -24,7 +24,7 @@ impl Model for Name {
 
     ghost Value = { Tok };
 
-    ghost view = { λ n. record { kind = n.kind; text = n.text; line = n.line; head = n.head; ends_line = n.ends_line } };
+    ghost view = { λ n. record { form = n.form; text = n.text; line = n.line; kind = n.kind; ends_line = n.ends_line } };
 }
 
 impl Name {
@@ -36,8 +36,8 @@ impl Name {
         Ok(Name {
             text,
             line: token.line,
+            form: token.form,
             kind: token.kind,
-            head: token.head,
             ends_line: token.ends_line,
         })
     }
@@ -49,8 +49,8 @@ impl Name {
         Token {
             text: self.text.as_slice(),
             line: self.line,
+            form: self.form,
             kind: self.kind,
-            head: self.head,
             ends_line: self.ends_line,
         }
     }

@@ -2,15 +2,15 @@
 
 ghost use Rattle.std.specs.Prelude.{◌≡◌, ◌≤◌, ◌^◌, MatchOption};
 ghost use Rattle.ir_read.specs.Alphabet.{contains};
-ghost use Rattle.ir_read.specs.Readers.{Gives, token_at};
+ghost use Rattle.ir_read.specs.Readers.{Returns, token_at};
 ghost use Rattle.ir_lex.specs.Rows.{begins};
 ghost use Rattle.ir_lex.specs.Tok.{tok};
 ghost use Rattle.ir_read.specs.Decimals.{decimal, ALIGNMENTS, alignment_of, is_alignment};
 
 use crate::terminals::refusal;
 use crate::tokens::Tokens;
-use crate::{Fault, ReadError, TokenFault};
-use ir_lex::{Head, Token};
+use crate::{Fault, ReaderError, TokenFault};
+use ir_lex::{Token, TokenKind};
 
 /// The number that these digits write, or `None` from `2^64` on. Leading zeros count for nothing.
 pub fn decimal(digits: &[u8]) -> Option<u64>
@@ -97,26 +97,26 @@ fn begins_minus(text: &[u8]) -> bool
 fn alignment_means(t: &Token) -> Result<u64, TokenFault>
     ensures { result ≡ is_alignment (tok t.now) }
 {
-    if t.head.is(Head::Number) {
+    if t.kind.is(TokenKind::Number) {
         alignment_of(t.text)
     } else {
-        Err(refusal(t.head))
+        Err(refusal(t.kind))
     }
 }
 
 /// Takes an alignment, in bytes: a power of two from 1 to `2^30`; another number is out of range.
-pub fn alignment_at(tokens: &mut Tokens) -> Result<u64, ReadError>
-    ensures { Gives (λ x. (x, tokens.new)) result (token_at is_alignment tokens.old) }
+pub fn alignment_at(tokens: &mut Tokens) -> Result<u64, ReaderError>
+    ensures { Returns (λ x. (x, tokens.new)) result (token_at is_alignment tokens.old) }
 {
     let left = tokens.left();
     match tokens.take() {
-        None => Err(ReadError::Fault(Fault {
+        None => Err(ReaderError::Fault(Fault {
             left,
             kind: TokenFault::Syntax,
         })),
         Some(t) => match alignment_means(&t) {
             Ok(align) => Ok(align),
-            Err(kind) => Err(ReadError::Fault(Fault { left, kind })),
+            Err(kind) => Err(ReaderError::Fault(Fault { left, kind })),
         },
     }
 }

@@ -3,9 +3,9 @@
 ghost use Rattle.std.specs.Prelude.{◌≡◌, ◌&&◌, not, nat_lt, Ok, IfOk, IfSome};
 ghost use Rattle.std.specs.Char.{is_ascii_digit};
 ghost use Rattle.std.specs.List.{list_all};
-ghost use Rattle.ir_lex.specs.Heads.{number};
+ghost use Rattle.ir_lex.specs.TokenKinds.{number};
 ghost use Rattle.ir_lex.specs.Tok.{tok};
-ghost use Rattle.ir_read.specs.Readers.{Gives};
+ghost use Rattle.ir_read.specs.Readers.{Returns};
 ghost use Rattle.ir_read.specs.Rules.{is_among, is_exact, is_valued};
 ghost use Rattle.ir_read.specs.Classes.{tokens, refusal};
 ghost use Rattle.ir_read.specs.Literals.{IsWidth};
@@ -20,27 +20,27 @@ use crate::numerals::decimal;
 use crate::raw::Operand;
 use crate::terminals::{expect, refusal};
 use crate::tokens::Tokens;
-use crate::{Fault, ReadError, TokenFault};
-use ir_lex::{Head, Token};
+use crate::{Fault, ReaderError, TokenFault};
+use ir_lex::{Token, TokenKind};
 use ir_tree::Reg;
 use std::alloc::{AllocError, Global};
 
 /// Why a token can't stand where a type may.
-pub fn type_refusal(head: Head) -> TokenFault
+pub fn type_refusal(head: TokenKind) -> TokenFault
     ensures { result ≡ type_refusal (number head) }
 {
     match head {
-        Head::Target | Head::RefusedType => TokenFault::Profile,
+        TokenKind::Target | TokenKind::RefusedType => TokenFault::Profile,
         _ => refusal(head),
     }
 }
 
 /// Why a token can't stand where a type of memory must.
-pub fn memory_refusal(head: Head) -> TokenFault
+pub fn memory_refusal(head: TokenKind) -> TokenFault
     ensures { result ≡ memory_refusal (number head) }
 {
     match head {
-        Head::RegisterInteger => TokenFault::Profile,
+        TokenKind::RegisterInteger => TokenFault::Profile,
         _ => type_refusal(head),
     }
 }
@@ -53,12 +53,12 @@ pub fn width(t: &Token) -> u8
     t.width().max(1).min(64) as u8
 }
 
-/// The type that a token of its class writes.
+/// The type that a token of its kind writes.
 pub fn reg_of(t: &Token) -> Reg
     ensures exact { result ≡ reg_of (tok t.now) }
     ensures ranged { IsReg result }
 {
-    if t.head.is(Head::Ptr) {
+    if t.kind.is(TokenKind::Ptr) {
         Reg::Ptr
     } else {
         Reg::Int(width(t))
@@ -70,26 +70,26 @@ fn reg_means(t: &Token) -> Result<Reg, TokenFault>
     ensures exact { result ≡ is_among tokens type_refusal REG reg_of (tok t.now) }
     ensures ranged { IfOk result IsReg }
 {
-    match t.head {
-        Head::MemoryInteger | Head::RegisterInteger | Head::Ptr => Ok(reg_of(t)),
+    match t.kind {
+        TokenKind::MemoryInteger | TokenKind::RegisterInteger | TokenKind::Ptr => Ok(reg_of(t)),
         head => Err(type_refusal(head)),
     }
 }
 
 /// Takes the type of a register: `iN` or `ptr`.
-pub fn reg_at(tokens: &mut Tokens) -> Result<Reg, ReadError>
-    ensures exact { Gives (λ x. (x, tokens.new)) result (reg_at tokens.old) }
+pub fn reg_at(tokens: &mut Tokens) -> Result<Reg, ReaderError>
+    ensures exact { Returns (λ x. (x, tokens.new)) result (reg_at tokens.old) }
     ensures ranged { IfOk result IsReg }
 {
     let left = tokens.left();
     match tokens.take() {
-        None => Err(ReadError::Fault(Fault {
+        None => Err(ReaderError::Fault(Fault {
             left,
             kind: TokenFault::Syntax,
         })),
         Some(t) => match reg_means(&t) {
             Ok(x) => Ok(x),
-            Err(kind) => Err(ReadError::Fault(Fault { left, kind })),
+            Err(kind) => Err(ReaderError::Fault(Fault { left, kind })),
         },
     }
 }
@@ -99,26 +99,26 @@ fn integer_means(t: &Token) -> Result<u8, TokenFault>
     ensures exact { result ≡ is_among tokens type_refusal INTEGER width (tok t.now) }
     ensures ranged { IfOk result IsWidth }
 {
-    match t.head {
-        Head::MemoryInteger | Head::RegisterInteger => Ok(width(t)),
+    match t.kind {
+        TokenKind::MemoryInteger | TokenKind::RegisterInteger => Ok(width(t)),
         head => Err(type_refusal(head)),
     }
 }
 
 /// Takes an integer type; the answer is its width in bits.
-pub fn integer_at(tokens: &mut Tokens) -> Result<u8, ReadError>
-    ensures exact { Gives (λ x. (x, tokens.new)) result (integer_at tokens.old) }
+pub fn integer_at(tokens: &mut Tokens) -> Result<u8, ReaderError>
+    ensures exact { Returns (λ x. (x, tokens.new)) result (integer_at tokens.old) }
     ensures ranged { IfOk result IsWidth }
 {
     let left = tokens.left();
     match tokens.take() {
-        None => Err(ReadError::Fault(Fault {
+        None => Err(ReaderError::Fault(Fault {
             left,
             kind: TokenFault::Syntax,
         })),
         Some(t) => match integer_means(&t) {
             Ok(x) => Ok(x),
-            Err(kind) => Err(ReadError::Fault(Fault { left, kind })),
+            Err(kind) => Err(ReaderError::Fault(Fault { left, kind })),
         },
     }
 }
@@ -128,13 +128,13 @@ fn bit_means(t: &Token) -> Result<u8, TokenFault>
     ensures exact { result ≡ is_exact tokens type_refusal INTEGER is_bit width (tok t.now) }
     ensures ranged { IfOk result IsWidth }
 {
-    match t.head {
-        Head::MemoryInteger | Head::RegisterInteger => {
+    match t.kind {
+        TokenKind::MemoryInteger | TokenKind::RegisterInteger => {
             let bits = width(t);
             if bits == 1 {
                 Ok(bits)
             } else {
-                Err(type_refusal(t.head))
+                Err(type_refusal(t.kind))
             }
         }
         head => Err(type_refusal(head)),
@@ -142,19 +142,19 @@ fn bit_means(t: &Token) -> Result<u8, TokenFault>
 }
 
 /// Takes `i1`; the answer is its width in bits.
-pub fn bit_at(tokens: &mut Tokens) -> Result<u8, ReadError>
-    ensures exact { Gives (λ x. (x, tokens.new)) result (bit_at tokens.old) }
+pub fn bit_at(tokens: &mut Tokens) -> Result<u8, ReaderError>
+    ensures exact { Returns (λ x. (x, tokens.new)) result (bit_at tokens.old) }
     ensures ranged { IfOk result IsWidth }
 {
     let left = tokens.left();
     match tokens.take() {
-        None => Err(ReadError::Fault(Fault {
+        None => Err(ReaderError::Fault(Fault {
             left,
             kind: TokenFault::Syntax,
         })),
         Some(t) => match bit_means(&t) {
             Ok(x) => Ok(x),
-            Err(kind) => Err(ReadError::Fault(Fault { left, kind })),
+            Err(kind) => Err(ReaderError::Fault(Fault { left, kind })),
         },
     }
 }
@@ -164,26 +164,26 @@ fn scalar_means(t: &Token) -> Result<Reg, TokenFault>
     ensures exact { result ≡ is_among tokens memory_refusal SCALAR reg_of (tok t.now) }
     ensures ranged { IfOk result IsReg }
 {
-    match t.head {
-        Head::MemoryInteger | Head::Ptr => Ok(reg_of(t)),
+    match t.kind {
+        TokenKind::MemoryInteger | TokenKind::Ptr => Ok(reg_of(t)),
         head => Err(memory_refusal(head)),
     }
 }
 
 /// Takes the type of a scalar in memory: `i8`, `i16`, `i32`, `i64` or `ptr`.
-pub fn scalar_at(tokens: &mut Tokens) -> Result<Reg, ReadError>
-    ensures exact { Gives (λ x. (x, tokens.new)) result (scalar_at tokens.old) }
+pub fn scalar_at(tokens: &mut Tokens) -> Result<Reg, ReaderError>
+    ensures exact { Returns (λ x. (x, tokens.new)) result (scalar_at tokens.old) }
     ensures ranged { IfOk result IsReg }
 {
     let left = tokens.left();
     match tokens.take() {
-        None => Err(ReadError::Fault(Fault {
+        None => Err(ReaderError::Fault(Fault {
             left,
             kind: TokenFault::Syntax,
         })),
         Some(t) => match scalar_means(&t) {
             Ok(x) => Ok(x),
-            Err(kind) => Err(ReadError::Fault(Fault { left, kind })),
+            Err(kind) => Err(ReaderError::Fault(Fault { left, kind })),
         },
     }
 }
@@ -193,27 +193,29 @@ fn result_means(t: &Token) -> Result<Option<Reg>, TokenFault>
     ensures exact { result ≡ is_among tokens type_refusal RESULT result_of (tok t.now) }
     ensures ranged { IfOk result (λ x. IfSome x IsReg) }
 {
-    match t.head {
-        Head::Void => Ok(None),
-        Head::MemoryInteger | Head::RegisterInteger | Head::Ptr => Ok(Some(reg_of(t))),
+    match t.kind {
+        TokenKind::Void => Ok(None),
+        TokenKind::MemoryInteger | TokenKind::RegisterInteger | TokenKind::Ptr => Ok(Some(reg_of(
+            t,
+        ))),
         head => Err(type_refusal(head)),
     }
 }
 
 /// Takes the type of a result: `void`, or the type of a register.
-pub fn result_at(tokens: &mut Tokens) -> Result<Option<Reg>, ReadError>
-    ensures exact { Gives (λ x. (x, tokens.new)) result (result_at tokens.old) }
+pub fn result_at(tokens: &mut Tokens) -> Result<Option<Reg>, ReaderError>
+    ensures exact { Returns (λ x. (x, tokens.new)) result (result_at tokens.old) }
     ensures ranged { IfOk result (λ x. IfSome x IsReg) }
 {
     let left = tokens.left();
     match tokens.take() {
-        None => Err(ReadError::Fault(Fault {
+        None => Err(ReaderError::Fault(Fault {
             left,
             kind: TokenFault::Syntax,
         })),
         Some(t) => match result_means(&t) {
             Ok(x) => Ok(x),
-            Err(kind) => Err(ReadError::Fault(Fault { left, kind })),
+            Err(kind) => Err(ReaderError::Fault(Fault { left, kind })),
         },
     }
 }
@@ -283,39 +285,39 @@ pub fn group_named(alloc: Global, t: &Token) -> Result<Option<Name>, AllocError>
 fn local_means(alloc: Global, t: &Token) -> Result<Result<Name, TokenFault>, AllocError>
     ensures { IfOk result (λ x. x ≡ is_valued tokens refusal LOCAL named (tok t.now)) }
 {
-    if t.head.is(Head::Local) {
+    if t.kind.is(TokenKind::Local) {
         match named(alloc, t)? {
             None => Ok(Err(TokenFault::Number)),
             Some(name) => Ok(Ok(name)),
         }
     } else {
-        Ok(Err(refusal(t.head)))
+        Ok(Err(refusal(t.kind)))
     }
 }
 
 /// Takes the name of a local.
-pub fn local_at(alloc: Global, tokens: &mut Tokens) -> Result<Name, ReadError>
-    ensures { Gives (λ x. (x, tokens.new)) result (local_at tokens.old) }
+pub fn local_at(alloc: Global, tokens: &mut Tokens) -> Result<Name, ReaderError>
+    ensures { Returns (λ x. (x, tokens.new)) result (local_at tokens.old) }
 {
     let left = tokens.left();
     match tokens.take() {
-        None => Err(ReadError::Fault(Fault {
+        None => Err(ReaderError::Fault(Fault {
             left,
             kind: TokenFault::Syntax,
         })),
         Some(t) => match local_means(alloc, &t)? {
             Ok(x) => Ok(x),
-            Err(kind) => Err(ReadError::Fault(Fault { left, kind })),
+            Err(kind) => Err(ReaderError::Fault(Fault { left, kind })),
         },
     }
 }
 
-/// The name that a token of a global's class writes, unless that is a number from `2^32` on.
+/// The name that a token of a global's kind writes, unless that is a number from `2^32` on.
 pub fn global_named(alloc: Global, t: &Token) -> Result<Option<Name>, AllocError>
     ensures { IfOk result (λ x. x ≡ global_named (tok t.now)) }
 {
-    match t.head {
-        Head::NumberedGlobal | Head::NumberedDefinition => named(alloc, t),
+    match t.kind {
+        TokenKind::NumberedGlobal | TokenKind::NumberedDefinition => named(alloc, t),
         _ => {
             let name = Name::of(alloc, t)?;
             Ok(Some(name))
@@ -373,41 +375,41 @@ pub fn operand_means(
     requires { IsReg reg }
     ensures { IfOk result (λ x. x ≡ is_valued tokens refusal (classes_of reg) (operand_of reg) (tok t.now)) }
 {
-    match t.head {
-        Head::Number => Ok(number_means(reg, t)),
-        Head::Local => local_value(alloc, t),
-        Head::True => Ok(Ok(Operand::Number { width: 1, bits: 1 })),
-        Head::False => Ok(Ok(Operand::Number { width: 1, bits: 0 })),
-        Head::Null => Ok(Ok(Operand::Null)),
-        Head::Poison => Ok(Ok(Operand::Poison(reg))),
-        Head::Global => global_spelled(alloc, t),
-        Head::NumberedGlobal | Head::NumberedDefinition => global_value(alloc, t),
+    match t.kind {
+        TokenKind::Number => Ok(number_means(reg, t)),
+        TokenKind::Local => local_value(alloc, t),
+        TokenKind::True => Ok(Ok(Operand::Number { width: 1, bits: 1 })),
+        TokenKind::False => Ok(Ok(Operand::Number { width: 1, bits: 0 })),
+        TokenKind::Null => Ok(Ok(Operand::Null)),
+        TokenKind::Poison => Ok(Ok(Operand::Poison(reg))),
+        TokenKind::Global => global_spelled(alloc, t),
+        TokenKind::NumberedGlobal | TokenKind::NumberedDefinition => global_value(alloc, t),
         head => Ok(Err(refusal(head))),
     }
 }
 
 /// Takes an operand of a type that is one token. A number is a literal of the type; `true` and
 /// `false` are those of `i1`.
-pub fn simple_at(alloc: Global, reg: Reg, tokens: &mut Tokens) -> Result<Operand, ReadError>
+pub fn simple_at(alloc: Global, reg: Reg, tokens: &mut Tokens) -> Result<Operand, ReaderError>
     requires { IsReg reg }
-    ensures { Gives (λ x. (x, tokens.new)) result (simple_at reg tokens.old) }
+    ensures { Returns (λ x. (x, tokens.new)) result (simple_at reg tokens.old) }
 {
     let left = tokens.left();
     match tokens.take() {
-        None => Err(ReadError::Fault(Fault {
+        None => Err(ReaderError::Fault(Fault {
             left,
             kind: TokenFault::Syntax,
         })),
         Some(t) => match operand_means(alloc, reg, &t)? {
             Ok(x) => Ok(x),
-            Err(kind) => Err(ReadError::Fault(Fault { left, kind })),
+            Err(kind) => Err(ReaderError::Fault(Fault { left, kind })),
         },
     }
 }
 
 /// Takes a word where it stands; the answer is whether it does.
-pub fn maybe_at(word: Head, tokens: &mut Tokens) -> Result<bool, ReadError>
-    ensures { Gives (λ x. (x, tokens.new)) result (maybe_at word tokens.old) }
+pub fn maybe_at(word: TokenKind, tokens: &mut Tokens) -> Result<bool, ReaderError>
+    ensures { Returns (λ x. (x, tokens.new)) result (maybe_at word tokens.old) }
 {
     if tokens.comes(word) {
         expect(word, tokens)?;

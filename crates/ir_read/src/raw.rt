@@ -203,16 +203,16 @@ impl Drop for Instr {
 }
 
 /// An instruction, the name that its result is given, and the line of its first token.
-pub struct Line {
+pub struct WrittenLine {
     pub name: Option<Name>,
     pub instr: Instr,
     pub line: u32,
 }
 
 // Written out, so that it is one call wherever a line is dropped.
-impl Drop for Line {
+impl Drop for WrittenLine {
     fn drop(self) {
-        let Line {
+        let WrittenLine {
             name,
             instr,
             line: _,
@@ -283,7 +283,7 @@ impl Drop for Terminator {
 /// terminator's first token.
 pub struct Block {
     pub label: Option<Name>,
-    pub lines: Rows<Line>,
+    pub lines: Rows<WrittenLine>,
     pub end: Terminator,
     pub end_line: u32,
 }
@@ -313,7 +313,7 @@ pub struct Param {
 /// What stands before the blocks of a function. The linkage is the one that is written, or
 /// `External`; `result` is `None` for `void`; `groups` are the attribute groups that it names.
 #[derive(Drop)]
-pub struct Head {
+pub struct FunctionHeader {
     pub linkage: Linkage,
     pub result: Option<Reg>,
     pub name: Name,
@@ -403,8 +403,8 @@ pub enum Item {
     },
     Type(Name, Option<Typed>),
     Variable(Variable),
-    Declaration(Head),
-    Definition(Head, Rows<Block>),
+    Declaration(FunctionHeader),
+    Definition(FunctionHeader, Rows<Block>),
 }
 
 // Written out, so that it is one call wherever an item is dropped.

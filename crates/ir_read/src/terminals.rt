@@ -1,48 +1,48 @@
 //! Reads single tokens.
 
 ghost use Rattle.std.specs.Prelude.{◌≡◌};
-ghost use Rattle.ir_lex.specs.Heads.{number};
+ghost use Rattle.ir_lex.specs.TokenKinds.{number};
 ghost use Rattle.ir_lex.specs.Tok.{Tok};
-ghost use Rattle.ir_read.specs.Readers.{Gives};
+ghost use Rattle.ir_read.specs.Readers.{Returns};
 ghost use Rattle.ir_read.specs.Classes.{refusal, the_at};
 
 use crate::tokens::Tokens;
-use crate::{Fault, ReadError, TokenFault};
-use ir_lex::Head;
+use crate::{Fault, ReaderError, TokenFault};
+use ir_lex::TokenKind;
 
-/// Why a token of this class can't stand where it isn't wanted.
-pub fn refusal(head: Head) -> TokenFault
+/// Why a token of this kind can't stand where it isn't wanted.
+pub fn refusal(head: TokenKind) -> TokenFault
     ensures { result ≡ refusal (number head) }
 {
     match head {
-        Head::ReservedGlobal
-        | Head::LifetimeMarker
-        | Head::RefusedMark
-        | Head::RefusedInteger
-        | Head::RefusedAttribute
-        | Head::RefusedWord => TokenFault::Profile,
+        TokenKind::ReservedGlobal
+        | TokenKind::LifetimeMarker
+        | TokenKind::RefusedMark
+        | TokenKind::RefusedInteger
+        | TokenKind::RefusedAttribute
+        | TokenKind::RefusedWord => TokenFault::Profile,
         _ => TokenFault::Syntax,
     }
 }
 
-/// Takes a token of this class.
+/// Takes a token of this kind.
 #[tactic(auto, unfolding(crate::specs::Rules::is_class))]
-pub fn expect(wanted: Head, tokens: &mut Tokens) -> Result<(), ReadError>
-    ensures { Gives (λ x. (tt, tokens.new)) result (the_at wanted tokens.old) }
+pub fn expect(wanted: TokenKind, tokens: &mut Tokens) -> Result<(), ReaderError>
+    ensures { Returns (λ x. (tt, tokens.new)) result (the_at wanted tokens.old) }
 {
     let left = tokens.left();
     match tokens.take() {
-        None => Err(ReadError::Fault(Fault {
+        None => Err(ReaderError::Fault(Fault {
             left,
             kind: TokenFault::Syntax,
         })),
         Some(t) => {
-            if t.head.is(wanted) {
+            if t.kind.is(wanted) {
                 Ok(())
             } else {
-                Err(ReadError::Fault(Fault {
+                Err(ReaderError::Fault(Fault {
                     left,
-                    kind: refusal(t.head),
+                    kind: refusal(t.kind),
                 }))
             }
         }

@@ -1,7 +1,7 @@
 //! The tokens that are left.
 
 ghost use Rattle.std.specs.Prelude.{◌≡◌, [], ◌∷◌, length, MatchOption};
-ghost use Rattle.ir_lex.specs.Heads.{number};
+ghost use Rattle.ir_lex.specs.TokenKinds.{number};
 ghost use Rattle.ir_lex.specs.Tok.{tok, toks};
 ghost use Rattle.ir_read.specs.Alphabet.{among};
 ghost use Rattle.ir_read.specs.Readers.{next_is};
@@ -10,7 +10,7 @@ ghost use Rattle.ir_read.specs.Classes.{tokens, NextHead};
 ghost use Rattle.ir_read.specs.Metadata.{META};
 ghost use Rattle.ir_read.specs.Operands.{REG};
 
-use ir_lex::{Head, Token};
+use ir_lex::{Token, TokenKind};
 use std::marker::Model;
 
 /// The tokens that are left, which a reader takes one by one. Contracts see their list.
@@ -63,8 +63,8 @@ impl<'t, 'a> Tokens<'t, 'a> {
         match self.rest {
             [] => false,
             [t, ..] => matches!(
-                t.head,
-                Head::MemoryInteger | Head::RegisterInteger | Head::Ptr
+                t.kind,
+                TokenKind::MemoryInteger | TokenKind::RegisterInteger | TokenKind::Ptr
             ),
         }
     }
@@ -76,8 +76,8 @@ impl<'t, 'a> Tokens<'t, 'a> {
         match self.rest {
             [] => false,
             [t, ..] => matches!(
-                t.head,
-                Head::OpenBracket | Head::OpenBrace | Head::OpenAngle
+                t.kind,
+                TokenKind::OpenBracket | TokenKind::OpenBrace | TokenKind::OpenAngle
             ),
         }
     }
@@ -88,7 +88,7 @@ impl<'t, 'a> Tokens<'t, 'a> {
     {
         match self.rest {
             [] => false,
-            [t, ..] => matches!(t.head, Head::Meta | Head::Bang),
+            [t, ..] => matches!(t.kind, TokenKind::Meta | TokenKind::Bang),
         }
     }
 
@@ -98,7 +98,7 @@ impl<'t, 'a> Tokens<'t, 'a> {
     {
         match self.rest {
             [] => false,
-            [t, ..] => matches!(t.head, Head::Nuw | Head::Nsw),
+            [t, ..] => matches!(t.kind, TokenKind::Nuw | TokenKind::Nsw),
         }
     }
 
@@ -108,7 +108,7 @@ impl<'t, 'a> Tokens<'t, 'a> {
     {
         match self.rest {
             [] => false,
-            [t, ..] => matches!(t.head, Head::Align | Head::Meta | Head::Bang),
+            [t, ..] => matches!(t.kind, TokenKind::Align | TokenKind::Meta | TokenKind::Bang),
         }
     }
 
@@ -118,27 +118,30 @@ impl<'t, 'a> Tokens<'t, 'a> {
     {
         match self.rest {
             [] => false,
-            [t, ..] => matches!(t.head, Head::Inbounds | Head::Nuw | Head::Nusw),
+            [t, ..] => matches!(
+                t.kind,
+                TokenKind::Inbounds | TokenKind::Nuw | TokenKind::Nusw
+            ),
         }
     }
 
-    /// Whether the next token is of this class.
-    pub fn comes(&self, wanted: Head) -> bool
+    /// Whether the next token is of this kind.
+    pub fn comes(&self, wanted: TokenKind) -> bool
         ensures { result ≡ next_is (among tokens (number wanted ∷ [])) self.now }
     {
         match self.rest {
             [] => false,
-            [t, ..] => t.head.is(wanted),
+            [t, ..] => t.kind.is(wanted),
         }
     }
 
-    /// The class of the next token.
-    pub fn head(&self) -> Option<Head>
+    /// The kind of the next token.
+    pub fn kind(&self) -> Option<TokenKind>
         ensures { MatchOption result (self.now ≡ []) (λ h. NextHead self.now h) }
     {
         match self.rest {
             [] => None,
-            [t, ..] => Some(t.head),
+            [t, ..] => Some(t.kind),
         }
     }
 }

@@ -4,7 +4,7 @@ use Rattle.ir_read.specs.declared.address.Level.{Level}
 use Rattle.ir_names.specs.declared.fault.Fault.{Fault}
 use Rattle.ir_tree.specs.declared.failure.Failure.{Failure}
 use Rattle.ir_tree.specs.declared.failure.Failure.TheVariants as errors
-use Rattle.ir_names.specs.Settled.{Settles, ◌>>=◌}
+use Rattle.ir_names.specs.Resolving.{ResolvesTo, ◌>>=◌}
 use Rattle.ir_names.specs.Stages.{Passes, passes, levels_within}
 use Rattle.ir_names.specs.Types.{Types, expanded}
 use Rattle.ir_stages.proofs.Gathering.{here}
@@ -24,6 +24,6 @@ later types fault (suc k) (l ∷ ls) h = ap (λ (r : Passes). r >>= λ _. passes
 
 -- a fault at a level is that of the address
 pub fails : {Y : Type 0} (w : Y → Unit {0}) (e : Failure Fault) (types : Types) (ls : List Level) (k : ℕ) (l : Level) → k < length ls → l ≡ get_or ls k l → levels_within types (drop (k + 1) ls) ≡ Ok tt
-    → Settles w (Err e) (passes (expanded types l.typed)) → Settles w (Err e) (levels_within types ls)
+    → ResolvesTo w (Err e) (passes (expanded types l.typed)) → ResolvesTo w (Err e) (levels_within types ls)
 fails w errors.NoMemory types ls k l at is h s = tt
 fails w (errors.Fault fault) types ls k l at is h s = later types fault k ls (level_fails types ls k l at is h fault s)

@@ -3,7 +3,7 @@ use Rattle.std.proofs.Common.{◌≡◌, refl, sym, ap, ◌∙◌, ℕ, ◌+◌,
 use Rattle.ir_names.specs.declared.fault.Fault.{Fault}
 use Rattle.ir_names.specs.Globals.{Globals}
 use Rattle.ir_names.specs.Marks.{Mark, type_name, type_use, shape, many, global, symbol, address}
-use Rattle.ir_names.specs.Settled.{◌>>=◌}
+use Rattle.ir_names.specs.Resolving.{◌>>=◌}
 use Rattle.ir_names.specs.Stages.{with_global_name, global_names, named, all_named, mark_within, marks_within}
 use Rattle.ir_names.specs.TypeNames.{with_first, first_types, typed_by, all_typed, place_of, put, places}
 use Rattle.ir_names.specs.Keys.{key_of}

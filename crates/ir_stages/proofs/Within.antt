@@ -10,7 +10,7 @@ use Rattle.ir_names.specs.declared.fault.Fault.{Fault}
 use Rattle.ir_tree.specs.declared.failure.Failure.TheVariants as errors
 use Rattle.ir_names.specs.Bodies.{allocated}
 use Rattle.ir_names.specs.Marks.{Mark, type_name, many, address, all, uses, all_uses, uses_if, level_uses, typed_marks}
-use Rattle.ir_names.specs.Settled.{Settles, ◌>>=◌}
+use Rattle.ir_names.specs.Resolving.{ResolvesTo, ◌>>=◌}
 use Rattle.ir_names.specs.Stages.{Passes, passes, address_within, typed_within, marks_within}
 use Rattle.ir_names.specs.Types.{Types, expanded}
 use Rattle.ir_stages.proofs.Gathering.{here}
@@ -73,6 +73,6 @@ module _ {A : Type 0} (types : Types) (f : A → List Mark) (xs : List A) (k : �
   pub goes_on : marks_within types (f x) ≡ Ok tt → marks_within types (all f (drop (k + 1) xs)) ≡ r
   goes_on e = sym (step ∙ ap more e) ∙ h
 
-  pub fails : (e : Failure Fault) (q : Result (Unit {0}) (Failure Fault)) → q ≡ Err e → Settles {X = Unit {0}} {Y = Unit {0}} (λ u. u) (Err e) (marks_within types (f x)) → Settles {X = Unit {0}} {Y = Unit {0}} (λ u. u) q r
-  fails errors.NoMemory q same s = subst (λ (p : Result (Unit {0}) (Failure Fault)). Settles {X = Unit {0}} {Y = Unit {0}} (λ u. u) p r) (sym same) tt
-  fails (errors.Fault fault) q same s = subst (λ (p : Result (Unit {0}) (Failure Fault)). Settles {X = Unit {0}} {Y = Unit {0}} (λ u. u) p r) (sym same) (sym h ∙ step ∙ ap more s)
+  pub fails : (e : Failure Fault) (q : Result (Unit {0}) (Failure Fault)) → q ≡ Err e → ResolvesTo {X = Unit {0}} {Y = Unit {0}} (λ u. u) (Err e) (marks_within types (f x)) → ResolvesTo {X = Unit {0}} {Y = Unit {0}} (λ u. u) q r
+  fails errors.NoMemory q same s = subst (λ (p : Result (Unit {0}) (Failure Fault)). ResolvesTo {X = Unit {0}} {Y = Unit {0}} (λ u. u) p r) (sym same) tt
+  fails (errors.Fault fault) q same s = subst (λ (p : Result (Unit {0}) (Failure Fault)). ResolvesTo {X = Unit {0}} {Y = Unit {0}} (λ u. u) p r) (sym same) (sym h ∙ step ∙ ap more s)

@@ -2,7 +2,7 @@
 ghost use Rattle.std.specs.Prelude.{◌≡◌, Ok, []};
 ghost use Rattle.ir_names.specs.Globals.{no_globals};
 ghost use Rattle.ir_names.specs.Globals as globals;
-ghost use Rattle.ir_names.specs.Settled.{Settles};
+ghost use Rattle.ir_names.specs.Resolving.{ResolvesTo};
 ghost use Rattle.ir_names.specs.Stages as stages;
 ghost use Rattle.ir_stages.specs.MarkViews.{standing, marks};
 
@@ -16,7 +16,7 @@ fn with_name<'t>(
     names: &mut NameSet<'t>,
     mark: &Mark<'t>,
 ) -> Result<(), ResolveError>
-    ensures { Settles (λ _. names.new) result (Ok (stages.global_names names.old (standing mark.now))) }
+    ensures { ResolvesTo (λ _. names.new) result (Ok (stages.global_names names.old (standing mark.now))) }
 {
     match mark {
         Mark::Global(name) => names.add(name_of(alloc, name)?),
@@ -26,7 +26,7 @@ fn with_name<'t>(
 
 /// The names of all globals of a module.
 fn global_names<'t>(rows: &[Mark<'t>], alloc: Global) -> Result<NameSet<'t>, ResolveError>
-    ensures { Settles (λ s. s) result (Ok (stages.global_names [] (marks rows.now))) }
+    ensures { ResolvesTo (λ s. s) result (Ok (stages.global_names [] (marks rows.now))) }
 {
     let mut names = NameSet::new(alloc);
     'each: for mark in rows {
@@ -37,7 +37,7 @@ fn global_names<'t>(rows: &[Mark<'t>], alloc: Global) -> Result<NameSet<'t>, Res
 
 /// A global that is used: it is defined or declared.
 fn if_there<'t>(alloc: Global, names: &NameSet<'t>, name: &'t Name) -> Result<(), ResolveError>
-    ensures { (g : globals.Globals) → Settles (λ _. g) result (stages.if_there names.now g name.now) }
+    ensures { (g : globals.Globals) → ResolvesTo (λ _. g) result (stages.if_there names.now g name.now) }
 {
     if names.contains(&name_of(alloc, name)?) {
         Ok(())
@@ -52,7 +52,7 @@ fn named<'t>(
     globals: &mut Globals<'t>,
     mark: &Mark<'t>,
 ) -> Result<(), ResolveError>
-    ensures { Settles (λ _. globals.new) result (stages.all_named names.now globals.old (standing mark.now)) }
+    ensures { ResolvesTo (λ _. globals.new) result (stages.all_named names.now globals.old (standing mark.now)) }
 {
     match mark {
         Mark::Global(name) => globals.define(alloc, name),
@@ -67,7 +67,7 @@ fn all_named<'t>(
     alloc: Global,
     names: &NameSet<'t>,
 ) -> Result<Globals<'t>, ResolveError>
-    ensures { Settles (λ g. g) result (stages.all_named names.now no_globals (marks rows.now)) }
+    ensures { ResolvesTo (λ g. g) result (stages.all_named names.now no_globals (marks rows.now)) }
 {
     let mut globals = Globals::new(alloc);
     'each: for mark in rows {
@@ -80,7 +80,7 @@ fn all_named<'t>(
 /// time, or as a number below the counter, or that uses one which is neither.
 #[tactic(auto, unfolding(ir_names::specs::Stages::globals_named))]
 pub fn globals_in<'t>(alloc: Global, marks: &Marks<'t>) -> Result<Globals<'t>, ResolveError>
-    ensures { Settles (λ g. g) result (stages.globals_named marks.now) }
+    ensures { ResolvesTo (λ g. g) result (stages.globals_named marks.now) }
 {
     let rows = marks.as_slice();
     let names = global_names(rows, alloc)?;

@@ -1,13 +1,13 @@
 //! Shapes and constant addresses of instructions and blocks (LangRef, "Instruction Reference").
 ghost use Rattle.std.specs.Prelude.{◌≡◌, ◌++◌};
 ghost use Rattle.ir_names.specs.Marks as marked;
-ghost use Rattle.ir_names.specs.Settled.{Settles};
+ghost use Rattle.ir_names.specs.Resolving.{ResolvesTo};
 ghost use Rattle.ir_names.specs.Stages as stages;
 ghost use Rattle.ir_stages.specs.Reserved.{reserved};
 
 use crate::limits::{operand_within, shape_within};
 use ir_names::ResolveError;
-use ir_read::{Argument, Block, Incoming, Instr, Line, Operand, Terminator, Typed};
+use ir_read::{Argument, Block, Incoming, Instr, Operand, Terminator, Typed, WrittenLine};
 use named_types::Sizes;
 use std::alloc::Global;
 
@@ -18,7 +18,7 @@ fn both_within<'t>(
     alloc: Global,
     types: &Sizes<'_, 't>,
 ) -> Result<(), ResolveError>
-    ensures { Settles (λ u. u) result (stages.marks_within types.now (marked.both left.now right.now)) }
+    ensures { ResolvesTo (λ u. u) result (stages.marks_within types.now (marked.both left.now right.now)) }
 {
     operand_within(left, alloc, types)?;
     operand_within(right, alloc, types)
@@ -30,7 +30,7 @@ fn entries_within<'t>(
     alloc: Global,
     types: &Sizes<'_, 't>,
 ) -> Result<(), ResolveError>
-    ensures { Settles (λ u. u) result (stages.marks_within types.now (marked.all (λ i. marked.operand_marks i.value) incoming.now)) }
+    ensures { ResolvesTo (λ u. u) result (stages.marks_within types.now (marked.all (λ i. marked.operand_marks i.value) incoming.now)) }
 {
     'each: for entry in incoming {
         operand_within(&entry.value, alloc, types)?;
@@ -44,7 +44,7 @@ fn arguments_within<'t>(
     alloc: Global,
     types: &Sizes<'_, 't>,
 ) -> Result<(), ResolveError>
-    ensures { Settles (λ u. u) result (stages.marks_within types.now (marked.all (λ a. marked.operand_marks a.operand) given.now)) }
+    ensures { ResolvesTo (λ u. u) result (stages.marks_within types.now (marked.all (λ a. marked.operand_marks a.operand) given.now)) }
 {
     'each: for argument in given {
         operand_within(&argument.operand, alloc, types)?;
@@ -59,7 +59,7 @@ fn reserved_within<'t>(
     alloc: Global,
     types: &Sizes<'_, 't>,
 ) -> Result<(), ResolveError>
-    ensures { Settles (λ u. u) result (stages.marks_within types.now (reserved instr.now)) }
+    ensures { ResolvesTo (λ u. u) result (stages.marks_within types.now (reserved instr.now)) }
 {
     match instr {
         Instr::Alloca { typed, count, .. } => { types.many_within(alloc, typed, *count) }
@@ -75,7 +75,7 @@ fn choice_within<'t>(
     alloc: Global,
     types: &Sizes<'_, 't>,
 ) -> Result<(), ResolveError>
-    ensures { Settles (λ u. u) result (stages.marks_within types.now (marked.operand_marks condition.now ++ marked.both if_true.now if_false.now)) }
+    ensures { ResolvesTo (λ u. u) result (stages.marks_within types.now (marked.operand_marks condition.now ++ marked.both if_true.now if_false.now)) }
 {
     operand_within(condition, alloc, types)?;
     both_within(if_true, if_false, alloc, types)
@@ -88,7 +88,7 @@ fn call_within<'t>(
     alloc: Global,
     types: &Sizes<'_, 't>,
 ) -> Result<(), ResolveError>
-    ensures { Settles (λ u. u) result (stages.marks_within types.now (marked.operand_marks callee.now ++ marked.all (λ a. marked.operand_marks a.operand) given.now)) }
+    ensures { ResolvesTo (λ u. u) result (stages.marks_within types.now (marked.operand_marks callee.now ++ marked.all (λ a. marked.operand_marks a.operand) given.now)) }
 {
     operand_within(callee, alloc, types)?;
     arguments_within(given, alloc, types)
@@ -103,7 +103,7 @@ fn stepping_within<'t>(
     alloc: Global,
     types: &Sizes<'_, 't>,
 ) -> Result<(), ResolveError>
-    ensures { Settles (λ u. u) result (stages.marks_within types.now (marked.typed_marks typed.now ++ (marked.operand_marks base.now ++ marked.all (λ a. marked.operand_marks a.operand) indices.now))) }
+    ensures { ResolvesTo (λ u. u) result (stages.marks_within types.now (marked.typed_marks typed.now ++ (marked.operand_marks base.now ++ marked.all (λ a. marked.operand_marks a.operand) indices.now))) }
 {
     shape_within(typed, alloc, types)?;
     call_within(base, indices, alloc, types)
@@ -114,7 +114,7 @@ fn instr_within<'t>(
     alloc: Global,
     types: &Sizes<'_, 't>,
 ) -> Result<(), ResolveError>
-    ensures { Settles (λ u. u) result (stages.marks_within types.now (marked.instr_marks instr.now)) }
+    ensures { ResolvesTo (λ u. u) result (stages.marks_within types.now (marked.instr_marks instr.now)) }
 {
     match instr {
         Instr::Binary { left, right, .. } | Instr::Icmp { left, right, .. } => {
@@ -148,11 +148,11 @@ fn instr_within<'t>(
 
 #[tactic(auto, using(crate::proofs::Within::behind))]
 fn lines_within<'t>(
-    rows: &'t [Line],
+    rows: &'t [WrittenLine],
     alloc: Global,
     types: &Sizes<'_, 't>,
 ) -> Result<(), ResolveError>
-    ensures { Settles (λ u. u) result (stages.marks_within types.now (marked.all (λ l. marked.instr_marks l.instr) rows.now)) }
+    ensures { ResolvesTo (λ u. u) result (stages.marks_within types.now (marked.all (λ l. marked.instr_marks l.instr) rows.now)) }
 {
     'each: for line in rows {
         instr_within(&line.instr, alloc, types)?;
@@ -165,7 +165,7 @@ fn end_within<'t>(
     alloc: Global,
     types: &Sizes<'_, 't>,
 ) -> Result<(), ResolveError>
-    ensures { Settles (λ u. u) result (stages.marks_within types.now (marked.end_marks end.now)) }
+    ensures { ResolvesTo (λ u. u) result (stages.marks_within types.now (marked.end_marks end.now)) }
 {
     match end {
         Terminator::Return(Some(argument)) => operand_within(&argument.operand, alloc, types),
@@ -181,7 +181,7 @@ fn block_within<'t>(
     alloc: Global,
     types: &Sizes<'_, 't>,
 ) -> Result<(), ResolveError>
-    ensures { Settles (λ u. u) result (stages.marks_within types.now (marked.block_marks block.now)) }
+    ensures { ResolvesTo (λ u. u) result (stages.marks_within types.now (marked.block_marks block.now)) }
 {
     lines_within(block.lines.as_slice(), alloc, types)?;
     end_within(&block.end, alloc, types)
@@ -194,7 +194,7 @@ pub fn blocks_within<'t>(
     alloc: Global,
     types: &Sizes<'_, 't>,
 ) -> Result<(), ResolveError>
-    ensures { Settles (λ u. u) result (stages.marks_within types.now (marked.all marked.block_marks rows.now)) }
+    ensures { ResolvesTo (λ u. u) result (stages.marks_within types.now (marked.all marked.block_marks rows.now)) }
 {
     'each: for block in rows {
         block_within(block, alloc, types)?;

@@ -4,7 +4,7 @@ ghost use Rattle.ir_names.specs.Marks as marked;
 
 use crate::mark::{Mark, Marks};
 use crate::uses::{level_uses, typed_marks, uses};
-use ir_read::{Argument, Block, Incoming, Instr, Line, Operand, Terminator, Typed};
+use ir_read::{Argument, Block, Incoming, Instr, Operand, Terminator, Typed, WrittenLine};
 use std::alloc::AllocError;
 
 /// A global that an operand names, or the constant address that it is.
@@ -129,7 +129,7 @@ fn instr_marks<'t>(instr: &'t Instr, marks: &mut Marks<'t>) -> Result<(), AllocE
     }
 }
 
-fn lines<'t>(rows: &'t [Line], marks: &mut Marks<'t>) -> Result<(), AllocError>
+fn lines<'t>(rows: &'t [WrittenLine], marks: &mut Marks<'t>) -> Result<(), AllocError>
     ensures { OnOk result (marks.new ≡ marks.old ++ marked.all (λ l. marked.instr_marks l.instr) rows.now) }
 {
     'each: for line in rows {

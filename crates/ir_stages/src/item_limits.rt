@@ -1,7 +1,7 @@
 //! Shapes and constant addresses of the items of a module (LangRef, "Module Structure").
 ghost use Rattle.std.specs.Prelude.{◌≡◌};
 ghost use Rattle.ir_names.specs.Marks as marked;
-ghost use Rattle.ir_names.specs.Settled.{Settles};
+ghost use Rattle.ir_names.specs.Resolving.{ResolvesTo};
 ghost use Rattle.ir_names.specs.Stages as stages;
 
 use crate::instruction_limits::blocks_within;
@@ -17,7 +17,7 @@ fn head_within<'t>(
     alloc: Global,
     types: &Sizes<'_, 't>,
 ) -> Result<(), ResolveError>
-    ensures { Settles (λ u. u) result (stages.marks_within types.now (marked.head_marks head.now)) }
+    ensures { ResolvesTo (λ u. u) result (stages.marks_within types.now (marked.head_marks head.now)) }
 {
     match head {
         InitHead::Plain(operand) => operand_within(operand, alloc, types),
@@ -31,7 +31,7 @@ fn part_within<'t>(
     alloc: Global,
     types: &Sizes<'_, 't>,
 ) -> Result<(), ResolveError>
-    ensures { Settles (λ u. u) result (stages.marks_within types.now (marked.part_marks part.now)) }
+    ensures { ResolvesTo (λ u. u) result (stages.marks_within types.now (marked.part_marks part.now)) }
 {
     match part {
         InitPart::Typed { typed, head } => {
@@ -48,7 +48,7 @@ fn parts_within<'t>(
     alloc: Global,
     types: &Sizes<'_, 't>,
 ) -> Result<(), ResolveError>
-    ensures { Settles (λ u. u) result (stages.marks_within types.now (marked.all marked.part_marks parts.now)) }
+    ensures { ResolvesTo (λ u. u) result (stages.marks_within types.now (marked.all marked.part_marks parts.now)) }
 {
     'each: for part in parts {
         part_within(part, alloc, types)?;
@@ -62,7 +62,7 @@ fn init_within<'t>(
     alloc: Global,
     types: &Sizes<'_, 't>,
 ) -> Result<(), ResolveError>
-    ensures { Settles (λ u. u) result (stages.marks_within types.now (marked.init_marks init.now)) }
+    ensures { ResolvesTo (λ u. u) result (stages.marks_within types.now (marked.init_marks init.now)) }
 {
     match init {
         None => Ok(()),
@@ -79,14 +79,14 @@ fn variable_within<'t>(
     alloc: Global,
     types: &Sizes<'_, 't>,
 ) -> Result<(), ResolveError>
-    ensures { Settles (λ u. u) result (stages.marks_within types.now (marked.variable_marks variable.now)) }
+    ensures { ResolvesTo (λ u. u) result (stages.marks_within types.now (marked.variable_marks variable.now)) }
 {
     shape_within(&variable.typed, alloc, types)?;
     init_within(&variable.init, alloc, types)
 }
 
 fn item_within<'t>(item: &'t Item, alloc: Global, types: &Sizes<'_, 't>) -> Result<(), ResolveError>
-    ensures { Settles (λ u. u) result (stages.marks_within types.now (marked.item_marks item.now)) }
+    ensures { ResolvesTo (λ u. u) result (stages.marks_within types.now (marked.item_marks item.now)) }
 {
     match item {
         Item::Type(_, typed) => typed_within(typed, alloc, types),
@@ -102,7 +102,7 @@ fn items_within<'t>(
     alloc: Global,
     types: &Sizes<'_, 't>,
 ) -> Result<(), ResolveError>
-    ensures { Settles (λ u. u) result (stages.marks_within types.now (marked.marks_of items.now)) }
+    ensures { ResolvesTo (λ u. u) result (stages.marks_within types.now (marked.marks_of items.now)) }
 {
     'each: for item in items {
         item_within(item, alloc, types)?;
@@ -117,7 +117,7 @@ pub fn shapes_within<'t>(
     alloc: Global,
     types: &Types<'t>,
 ) -> Result<(), ResolveError>
-    ensures { Settles (λ u. u) result (stages.marks_within types.now (marked.marks_of items.now)) }
+    ensures { ResolvesTo (λ u. u) result (stages.marks_within types.now (marked.marks_of items.now)) }
 {
     let graph = graph_of(alloc, types.names())?;
     let order = order_of(alloc, &graph)?;

@@ -1,7 +1,7 @@
 //! Shapes within the limits, and indices of constant addresses (LangRef, "getelementptr Instruction").
 ghost use Rattle.std.specs.Prelude.{◌≡◌};
 ghost use Rattle.ir_names.specs.Marks as marked;
-ghost use Rattle.ir_names.specs.Settled.{Settles};
+ghost use Rattle.ir_names.specs.Resolving.{ResolvesTo};
 ghost use Rattle.ir_names.specs.Stages as stages;
 
 use ir_names::{ResolveError, address_offset};
@@ -15,7 +15,7 @@ fn levels_within<'t>(
     alloc: Global,
     types: &Sizes<'_, 't>,
 ) -> Result<(), ResolveError>
-    ensures { Settles (λ u. u) result (stages.levels_within types.now levels.now) }
+    ensures { ResolvesTo (λ u. u) result (stages.levels_within types.now levels.now) }
 {
     let mut left = levels.len();
     'each: while left > 0 {
@@ -31,7 +31,7 @@ fn address_within<'t>(
     alloc: Global,
     types: &Sizes<'_, 't>,
 ) -> Result<(), ResolveError>
-    ensures { Settles (λ u. u) result (stages.address_within types.now steps.now) }
+    ensures { ResolvesTo (λ u. u) result (stages.address_within types.now steps.now) }
 {
     let levels = steps.levels.as_slice();
     levels_within(levels, alloc, types)?;
@@ -46,7 +46,7 @@ pub fn operand_within<'t>(
     alloc: Global,
     types: &Sizes<'_, 't>,
 ) -> Result<(), ResolveError>
-    ensures { Settles (λ u. u) result (stages.marks_within types.now (marked.operand_marks operand.now)) }
+    ensures { ResolvesTo (λ u. u) result (stages.marks_within types.now (marked.operand_marks operand.now)) }
 {
     match operand {
         Operand::Address(address) => address_within(address.steps(), alloc, types),
@@ -61,7 +61,7 @@ pub fn shape_within<'t>(
     alloc: Global,
     types: &Sizes<'_, 't>,
 ) -> Result<(), ResolveError>
-    ensures { Settles (λ u. u) result (stages.marks_within types.now (marked.typed_marks typed.now)) }
+    ensures { ResolvesTo (λ u. u) result (stages.marks_within types.now (marked.typed_marks typed.now)) }
 {
     types.shape_within(alloc, typed)
 }
@@ -72,7 +72,7 @@ pub fn typed_within<'t>(
     alloc: Global,
     types: &Sizes<'_, 't>,
 ) -> Result<(), ResolveError>
-    ensures { Settles (λ u. u) result (stages.typed_within types.now typed.now) }
+    ensures { ResolvesTo (λ u. u) result (stages.typed_within types.now typed.now) }
 {
     match typed {
         None => Ok(()),

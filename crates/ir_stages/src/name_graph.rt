@@ -1,6 +1,6 @@
 //! The graph of type names (LangRef, "Structure Type").
 ghost use Rattle.std.specs.Prelude.{◌≡◌, ◌++◌, [], OnOk, IfOk, Ok};
-ghost use Rattle.ir_names.specs.Settled.{Settles};
+ghost use Rattle.ir_names.specs.Resolving.{ResolvesTo};
 ghost use Rattle.ir_names.specs.Types as typing;
 ghost use Rattle.ir_names.specs.TypeNames.{places, put, uses_in, graph_of, graph_from};
 ghost use Rattle.ir_stages.specs.MarkViews.{standing, marks};
@@ -28,7 +28,7 @@ fn with_place<'t>(
     row: &mut Vec<usize>,
     mark: &Mark<'t>,
 ) -> Result<(), ResolveError>
-    ensures { Settles (λ _. row.new.items) result (Ok (row.old.items ++ places types.now (standing mark.now))) }
+    ensures { ResolvesTo (λ _. row.new.items) result (Ok (row.old.items ++ places types.now (standing mark.now))) }
 {
     match mark {
         Mark::TypeUse(name) => {
@@ -46,7 +46,7 @@ fn places<'t>(
     types: &TypeNames<'t>,
     rows: &[Mark<'t>],
 ) -> Result<Vec<usize>, ResolveError>
-    ensures { Settles (λ v. v.items) result (Ok (places types.now (marks rows.now))) }
+    ensures { ResolvesTo (λ v. v.items) result (Ok (places types.now (marks rows.now))) }
 {
     let mut row = Vec::new(alloc);
     'each: for mark in rows {
@@ -75,7 +75,7 @@ fn row_of<'t>(
     types: &TypeNames<'t>,
     place: usize,
 ) -> Result<Vec<usize>, ResolveError>
-    ensures { Settles (λ v. v.items) result (Ok (places types.now (uses_in (typing.shape_at types.now place)))) }
+    ensures { ResolvesTo (λ v. v.items) result (Ok (places types.now (uses_in (typing.shape_at types.now place)))) }
 {
     let marks = uses_at(alloc, types, place)?;
     places(alloc, types, marks.as_slice())
@@ -83,7 +83,7 @@ fn row_of<'t>(
 
 /// The graph of type names: from each definition an edge to that of each name in its shape.
 pub fn graph_of<'t>(alloc: Global, types: &TypeNames<'t>) -> Result<Graph, ResolveError>
-    ensures { Settles (λ g. g) result (Ok (graph_of types.now)) }
+    ensures { ResolvesTo (λ g. g) result (Ok (graph_of types.now)) }
 {
     let mut graph = Graph::new(alloc);
     'each: for place in 0..types.len() {

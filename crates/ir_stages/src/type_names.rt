@@ -1,7 +1,7 @@
 //! The type names of a module (LangRef, "Structure Type" and "Opaque Structure Types").
 ghost use Rattle.std.specs.Prelude.{◌≡◌, Ok, []};
 ghost use Rattle.ir_names.specs.Keys.{key_of};
-ghost use Rattle.ir_names.specs.Settled.{Settles};
+ghost use Rattle.ir_names.specs.Resolving.{ResolvesTo};
 ghost use Rattle.ir_names.specs.TypeNames.{first_types, all_typed, use_in, holds_itself, graph_of, type_names};
 ghost use Rattle.ir_stages.specs.MarkViews.{standing, marks};
 
@@ -17,7 +17,7 @@ fn with_first<'t>(
     types: &mut TypeNames<'t>,
     mark: &Mark<'t>,
 ) -> Result<(), ResolveError>
-    ensures { Settles (λ _. types.new) result (Ok (first_types types.old (standing mark.now))) }
+    ensures { ResolvesTo (λ _. types.new) result (Ok (first_types types.old (standing mark.now))) }
 {
     match mark {
         Mark::TypeName(name, typed) => types.add(alloc, name, shape_if(typed)),
@@ -27,7 +27,7 @@ fn with_first<'t>(
 
 /// The first definition of each type name.
 fn first_types<'t>(alloc: Global, rows: &[Mark<'t>]) -> Result<TypeNames<'t>, ResolveError>
-    ensures { Settles (λ t. t) result (Ok (first_types [] (marks rows.now))) }
+    ensures { ResolvesTo (λ t. t) result (Ok (first_types [] (marks rows.now))) }
 {
     let mut types = TypeNames::new(alloc);
     'each: for mark in rows {
@@ -44,7 +44,7 @@ fn holds_itself<'t>(
     name: &Name,
 ) -> Result<bool, ResolveError>
     requires { circles.now ≡ graph_of all.now }
-    ensures { Settles (λ b. b) result (Ok (holds_itself all.now (key_of name.now))) }
+    ensures { ResolvesTo (λ b. b) result (Ok (holds_itself all.now (key_of name.now))) }
 {
     match all.place_of_name(alloc, name)? {
         None => Ok(false),
@@ -63,7 +63,7 @@ fn use_in<'t>(
     name: &Name,
 ) -> Result<(), ResolveError>
     requires { circles.now ≡ graph_of all.now }
-    ensures { Settles (λ u. u) result (use_in all.now name.now) }
+    ensures { ResolvesTo (λ u. u) result (use_in all.now name.now) }
 {
     all.shape_in(alloc, name)?;
     if holds_itself(alloc, all, circles, name)? {
@@ -80,7 +80,7 @@ fn typed_by<'t>(
     mark: &Mark<'t>,
 ) -> Result<(), ResolveError>
     requires { circles.now ≡ graph_of all.now }
-    ensures { Settles (λ _. types.new) result (all_typed all.now types.old (standing mark.now)) }
+    ensures { ResolvesTo (λ _. types.new) result (all_typed all.now types.old (standing mark.now)) }
 {
     match mark {
         Mark::TypeName(name, typed) => types.define(alloc, name, shape_if(typed)),
@@ -96,7 +96,7 @@ fn all_typed<'t>(
     rows: &[Mark<'t>],
 ) -> Result<TypeNames<'t>, ResolveError>
     requires { circles.now ≡ graph_of all.now }
-    ensures { Settles (λ t. t) result (all_typed all.now [] (marks rows.now)) }
+    ensures { ResolvesTo (λ t. t) result (all_typed all.now [] (marks rows.now)) }
 {
     let mut types = TypeNames::new(alloc);
     'each: for mark in rows {
@@ -111,7 +111,7 @@ fn types_with<'t>(
     all: &TypeNames<'t>,
     rows: &[Mark<'t>],
 ) -> Result<Types<'t>, ResolveError>
-    ensures { Settles (λ t. t) result (all_typed all.now [] (marks rows.now)) }
+    ensures { ResolvesTo (λ t. t) result (all_typed all.now [] (marks rows.now)) }
 {
     let circles = Circles::of(alloc, graph_of(alloc, all)?)?;
     let names = all_typed(alloc, all, &circles, rows)?;
@@ -123,7 +123,7 @@ fn types_with<'t>(
 /// one which isn't defined, is opaque, or holds itself.
 #[tactic(auto, unfolding(ir_names::specs::TypeNames::type_names))]
 pub fn types_in<'t>(alloc: Global, marks: &Marks<'t>) -> Result<Types<'t>, ResolveError>
-    ensures { Settles (λ t. t) result (type_names marks.now) }
+    ensures { ResolvesTo (λ t. t) result (type_names marks.now) }
 {
     let rows = marks.as_slice();
     let all = first_types(alloc, rows)?;

@@ -2,7 +2,7 @@
 use Rattle.std.specs.Prelude.{◌≡◌, ℕ, ◌+◌, ◌<◌, ◌≤◌, ◌^◌, max, true, false, ◌⊎◌, List, [], ◌++◌, map, slice_get, All, Option, Some, None, IsSome}
 use Rattle.ir_tree.specs.Forms.{Form, int, pointer, array, structure, Forms, no_parts, part}
 use Rattle.ir_tree.specs.Layout.{IsLaidOut}
-use Rattle.ir_tree.specs.Flow.{targets, locals, holds}
+use Rattle.ir_tree.specs.Flow.{successors, locals, holds}
 use Rattle.ir_tree.specs.Items.{Item, phi_item, line_item, end_item, items, operands, entries}
 use Rattle.ir_tree.specs.declared.block.Case.{Case}
 use Rattle.ir_tree.specs.declared.block.Terminator.{Terminator}
@@ -140,7 +140,7 @@ CasesFormed _ = Unit {0}
 abbrev pub KindFormed : Function → Item → Type 0
 KindFormed f (phi_item b phi) = IsReg phi.reg
 KindFormed f (line_item b k l) = InstrFormed l.instr × ResultFormed l.instr l.local
-KindFormed f (end_item b t) = CasesFormed t × All (IsBlock f) (targets t)
+KindFormed f (end_item b t) = CasesFormed t × All (IsBlock f) (successors t)
 
 pub record ItemFormed (f : Function) (item : Item) : Type 0 where
   pub operands : All (ArgumentFormed f) (operands item)

@@ -1,7 +1,7 @@
 -- Soundness: the eight rules that a formed function keeps (LangRef, "Well-Formedness", "phi Instruction", "getelementptr Instruction").
 use Rattle.std.specs.Prelude.{◌≡◌, ℕ, zero, suc, ◌<◌, List, [], ◌∷◌, ◌++◌, map, slice_get, All, count_by, nat_eq, if◌then◌else◌, Option, Some, None, option_map, filter_map, flat_map}
 use Rattle.ir_tree.specs.Forms.{Form, int, pointer, array, structure, list_of}
-use Rattle.ir_tree.specs.Flow.{edges, targets, AvailableAt, AvailableAtEnd}
+use Rattle.ir_tree.specs.Flow.{edges, successors, AvailableAt, AvailableAtEnd}
 use Rattle.ir_tree.specs.Formed.{Formed}
 use Rattle.ir_tree.specs.Items.{Item, phi_item, line_item, end_item, items, typed, reads, end_reads, operands, entries}
 use Rattle.ir_tree.specs.declared.block.Block.{Block}
@@ -152,7 +152,7 @@ StandsRight (end_item b t) = Unit {0}
 -- ---- 5: edges to the entry
 
 abbrev pub LeavesEntry : Function → Item → Type 0
-LeavesEntry f (end_item b t) = All (λ n. place f.blocks n ≡ 0 → ⊥) (targets t)
+LeavesEntry f (end_item b t) = All (λ n. place f.blocks n ≡ 0 → ⊥) (successors t)
 LeavesEntry f _ = Unit {0}
 
 -- ---- 6: indices

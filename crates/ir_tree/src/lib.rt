@@ -21,6 +21,7 @@
 #![tactic(auto)]
 
 mod block;
+mod cause;
 mod duplicate;
 mod failure;
 mod fault_kind;
@@ -38,10 +39,12 @@ mod rows;
 mod rule;
 mod same;
 mod shape;
+mod target_line;
 mod text;
 mod verified;
 
 pub use block::{Block, Case, Terminator};
+pub use cause::Cause;
 pub use duplicate::Duplicate;
 pub use failure::Failure;
 pub use fault_kind::FaultKind;
@@ -59,5 +62,6 @@ pub use parsed::Parsed;
 pub use rows::Rows;
 pub use rule::Rule;
 pub use shape::{Shape, ShapeNode};
+pub use target_line::TargetLine;
 pub use text::Text;
 pub use verified::Verified;

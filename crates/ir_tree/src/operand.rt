@@ -2,8 +2,8 @@
 
 use crate::text::Text;
 
-/// The type of a register: an integer of 1 to 64 bits, or a pointer (LangRef, "Integer Type" and
-/// "Pointer Type").
+/// A scalar type, which a register has: an integer of 1 to 64 bits, or a pointer (LangRef, "Integer
+/// Type" and "Pointer Type").
 #[derive(Clone, Copy, Debug, PartialEq, Eq, PartialOrd, Ord)]
 pub enum Reg {
     Int(u8),

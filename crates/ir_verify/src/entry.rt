@@ -1,6 +1,6 @@
 //! The fifth rule: no edge leads to the entry.
 ghost use Rattle.std.specs.Prelude.{◌≡◌, ◌↔◌, IsTrue, All};
-ghost use Rattle.ir_tree.specs.Flow.{targets};
+ghost use Rattle.ir_tree.specs.Flow.{successors};
 ghost use Rattle.ir_tree.specs.Rules.{place};
 ghost use Rattle.ir_verify.specs.Definitions.{numbered};
 ghost use Rattle.ir_verify.specs.Edged.{NoEntry};
@@ -33,7 +33,7 @@ fn cases_leave(blocks: &[Block], places: &Table<usize>, cases: &[Case]) -> bool
 /// Whether no edge of a terminator leads to the entry.
 pub fn leaves_entry(blocks: &[Block], places: &Table<usize>, end: &Terminator) -> bool
     requires { Holds places.now.entries.items (numbered 0 blocks.now) }
-    ensures { IsTrue result ↔ All (NoEntry blocks.now) (targets end.now) }
+    ensures { IsTrue result ↔ All (NoEntry blocks.now) (successors end.now) }
 {
     match end {
         Terminator::Return(_) | Terminator::Unreachable => true,

@@ -3,7 +3,7 @@ use Rattle.std.proofs.Common.{◌≡◌, ◌<◌, ℕ, zero, suc, List, [], ◌�
 use Rattle.std.specs.Prelude.{All, slice_get, slice_index_or}
 use Rattle.ir_tree.specs.declared.module.Module.{Module}
 use Rattle.ir_parse.specs.Laws.{Apart, OneReading}
-use Rattle.lto_fault.specs.declared.kind.Kind.{Kind}
+use Rattle.lto_fault.specs.declared.kind.RefusalKind.{RefusalKind}
 use Rattle.link_one.specs.Accepted.{Accepts, Refuses}
 use Rattle.ir_tree.specs.Items.{items}
 use Rattle.ir_tree.specs.Rules.{Keeps}
@@ -31,7 +31,7 @@ unbroken (global.Function f) lines rule line sound (i, item, here, on, broken) =
 pub accepted_is_one : OneReading → (bytes : List ℕ) (m n : Module) → Accepts bytes m → Accepts bytes n → m ≡ n
 accepted_is_one one_reading bytes m n a b = (one_reading bytes m n a.lines b.lines a.reads b.reads).0
 
-pub accepted_not_refused : OneReading → Apart → (bytes : List ℕ) (m : Module) (line : ℕ) (kind : Kind) → Accepts bytes m → Refuses bytes line kind → ⊥
+pub accepted_not_refused : OneReading → Apart → (bytes : List ℕ) (m : Module) (line : ℕ) (kind : RefusalKind) → Accepts bytes m → Refuses bytes line kind → ⊥
 accepted_not_refused one_reading apart bytes m line kind a (inl unread) = apart bytes m a.lines line unread.fault a.reads unread.first
 accepted_not_refused one_reading apart bytes m line kind a (inr unsound) =
     unbroken unsound.least.broken.global unsound.least.broken.on unsound.fault.kind unsound.fault.line

@@ -23,7 +23,7 @@ use Rattle.importer.proofs.Members.{Stands, all_of, contained, either_part, imag
 use Rattle.link_one.specs.MeaningLaws.{CompiledRefines, ExportedIsDefined}
 use Rattle.ir_print.specs.Modules.{module_text}
 use Rattle.symbol_resolve.specs.Clashes.{given_text}
-use Rattle.symbol_resolve.specs.declared.clash.TargetLine.TheVariants.{Datalayout, Triple}
+use Rattle.ir_tree.specs.declared.target_line.TargetLine.TheVariants.{Datalayout, Triple}
 use Rattle.lto_task.specs.Pieces.{IsPieceOf}
 use Rattle.lto_task.specs.declared.piece.Piece.{Piece}
 use Rattle.link_one.specs.Linked.{IsLinked}

@@ -8,8 +8,8 @@ use Rattle.ir_verify.specs.Faults.{number}
 use Rattle.ir_verify.specs.Modules.{IsLeastFault}
 use Rattle.ir_verify.specs.Orders.{IsBefore}
 use Rattle.ir_verify.specs.declared.fault.VerifyFault.{VerifyFault}
-use Rattle.lto_fault.specs.declared.kind.Kind.{Kind}
-use Rattle.lto_fault.specs.declared.kind.Kind.TheVariants.{Unread, Unsound}
+use Rattle.lto_fault.specs.declared.kind.RefusalKind.{RefusalKind}
+use Rattle.lto_fault.specs.declared.kind.RefusalKind.TheVariants.{Unread, Unsound}
 use Rattle.link_one.specs.Accepted.{IsUnread, IsUnsound, Refuses}
 
 -- ---- a rule has a number of its own
@@ -45,7 +45,7 @@ before_both d e (inl a) (inr b) = absurd (omega (arith, a, b.0))
 before_both d e (inr a) (inl b) = absurd (omega (arith, a.0, b))
 before_both d e (inr a) (inr b) = (a.0, omega (arith, a.1, b.1))
 
-unsound_once : OneReading → (bytes : List ℕ) (line other : ℕ) (kind another : Kind) → IsUnsound bytes line kind → IsUnsound bytes other another → (line ≡ other) × (kind ≡ another)
+unsound_once : OneReading → (bytes : List ℕ) (line other : ℕ) (kind another : RefusalKind) → IsUnsound bytes line kind → IsUnsound bytes other another → (line ≡ other) × (kind ≡ another)
 unsound_once one_reading bytes line other kind another a b = same (before_both a.fault b.fault (a.least.least least.place b.fault.kind b.fault.line least.broken) (least.least a.least.place a.fault.kind a.fault.line a.least.broken))
   where
     one : (a.m ≡ b.m) × (a.lines ≡ b.lines)
@@ -59,13 +59,13 @@ unsound_once one_reading bytes line other kind another a b = same (before_both a
     same : (a.fault.line ≡ b.fault.line) × (number a.fault.kind ≡ number b.fault.kind) → (line ≡ other) × (kind ≡ another)
     same (lines, kinds) = (a.place ∙ lines ∙ sym b.place, a.told ∙ ap Unsound (own_number a.fault.kind b.fault.kind kinds) ∙ sym b.told)
 
-unread_once : OneFault → (bytes : List ℕ) (line other : ℕ) (kind another : Kind) → IsUnread bytes line kind → IsUnread bytes other another → (line ≡ other) × (kind ≡ another)
+unread_once : OneFault → (bytes : List ℕ) (line other : ℕ) (kind another : RefusalKind) → IsUnread bytes line kind → IsUnread bytes other another → (line ≡ other) × (kind ≡ another)
 unread_once one_fault bytes line other kind another a b = same (one_fault bytes line other a.fault b.fault a.first b.first)
   where
     same : (line ≡ other) × (a.fault ≡ b.fault) → (line ≡ other) × (kind ≡ another)
     same (lines, faults) = (lines, a.told ∙ ap Unread faults ∙ sym b.told)
 
-pub refused_once : OneReading → Apart → OneFault → (bytes : List ℕ) (line other : ℕ) (kind another : Kind) → Refuses bytes line kind → Refuses bytes other another
+pub refused_once : OneReading → Apart → OneFault → (bytes : List ℕ) (line other : ℕ) (kind another : RefusalKind) → Refuses bytes line kind → Refuses bytes other another
     → (line ≡ other) × (kind ≡ another)
 refused_once one_reading apart one_fault bytes line other kind another (inl a) (inl b) = unread_once one_fault bytes line other kind another a b
 refused_once one_reading apart one_fault bytes line other kind another (inl a) (inr b) = absurd (apart bytes b.m b.lines line a.fault b.reads a.first)

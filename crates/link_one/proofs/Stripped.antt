@@ -5,7 +5,7 @@ use Rattle.ir_tree.specs.declared.module.GlobalValue.{GlobalValue}
 use Rattle.ir_tree.specs.declared.operand.Symbol.{Symbol}
 use Rattle.ir_print.specs.Modules.{module_text}
 use Rattle.symbol_resolve.specs.Clashes.{given_text}
-use Rattle.symbol_resolve.specs.declared.clash.TargetLine.TheVariants.{Datalayout, Triple}
+use Rattle.ir_tree.specs.declared.target_line.TargetLine.TheVariants.{Datalayout, Triple}
 use Rattle.emit.specs.Laws.{JoinIsEmission}
 use Rattle.emit.specs.Strips.{ModulePieces, StrippedIsJoin}
 use Rattle.importer.specs.Brought.{joined}

@@ -7,8 +7,8 @@ use Rattle.ir_parse.specs.Reading.{Reads}
 use Rattle.ir_tree.specs.declared.fault_kind.FaultKind.{FaultKind}
 use Rattle.ir_verify.specs.Modules.{IsLeastFault}
 use Rattle.ir_verify.specs.declared.fault.VerifyFault.{VerifyFault}
-use Rattle.lto_fault.specs.declared.kind.Kind.{Kind}
-use Rattle.lto_fault.specs.declared.kind.Kind.TheVariants.{Unread, Unsound}
+use Rattle.lto_fault.specs.declared.kind.RefusalKind.{RefusalKind}
+use Rattle.lto_fault.specs.declared.kind.RefusalKind.TheVariants.{Unread, Unsound}
 
 -- the bytes are read as this module, which is sound
 pub record Accepts (bytes : List ℕ) (m : Module) : Type 0 where
@@ -19,13 +19,13 @@ pub record Accepts (bytes : List ℕ) (m : Module) : Type 0 where
 -- ---- faults
 
 -- the bytes are read as no module
-pub record IsUnread (bytes : List ℕ) (line : ℕ) (kind : Kind) : Type 0 where
+pub record IsUnread (bytes : List ℕ) (line : ℕ) (kind : RefusalKind) : Type 0 where
   pub fault : FaultKind
   pub first : FirstFault bytes line fault
   pub told : kind ≡ Unread fault
 
 -- the bytes are read as a module that isn't sound: this is its least fault
-pub record IsUnsound (bytes : List ℕ) (line : ℕ) (kind : Kind) : Type 0 where
+pub record IsUnsound (bytes : List ℕ) (line : ℕ) (kind : RefusalKind) : Type 0 where
   pub m : Module
   pub lines : List (List ℕ)
   pub reads : Reads bytes m lines
@@ -34,5 +34,5 @@ pub record IsUnsound (bytes : List ℕ) (line : ℕ) (kind : Kind) : Type 0 wher
   pub place : line ≡ fault.line
   pub told : kind ≡ Unsound fault.kind
 
-abbrev pub Refuses : List ℕ → ℕ → Kind → Type 0
+abbrev pub Refuses : List ℕ → ℕ → RefusalKind → Type 0
 Refuses bytes line kind = IsUnread bytes line kind ⊎ IsUnsound bytes line kind

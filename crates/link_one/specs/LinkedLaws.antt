@@ -9,7 +9,7 @@ use Rattle.merge_meaning.specs.Lives.{is_export, parts}
 use Rattle.merge_meaning.specs.Merged.{merged}
 use Rattle.lto_fault.specs.declared.refusal.Refusal.{Refusal}
 use Rattle.symbol_resolve.specs.Clashes.{given_text}
-use Rattle.symbol_resolve.specs.declared.clash.TargetLine.TheVariants.{Datalayout, Triple}
+use Rattle.ir_tree.specs.declared.target_line.TargetLine.TheVariants.{Datalayout, Triple}
 use Rattle.combined_index.specs.Combined.{Combined}
 use Rattle.promote_rename.specs.Finals.{NoneTaken, final_names}
 use Rattle.lto_task.specs.declared.piece.Piece.{Piece}

@@ -6,14 +6,14 @@ ghost use Rattle.link_one.specs.Accepted.{Accepts, Refuses};
 use ir_parse::{ReadError, parse};
 use ir_tree::{Failure, Verified};
 use ir_verify::{VerifyError, verify};
-use lto_fault::Kind;
+use lto_fault::RefusalKind;
 use std::alloc::Global;
 
 /// The file is read as no sound module within the limits: on which line, counted from 1, and why.
 #[derive(Drop)]
 pub struct Unsound {
     pub line: u32,
-    pub kind: Kind,
+    pub kind: RefusalKind,
 }
 
 /// Why a file isn't accepted.
@@ -33,7 +33,7 @@ pub fn accepted(alloc: Global, bytes: &[u8]) -> Result<Verified, LinkError>
         Err(ReadError::Fault(fault)) => {
             return Err(LinkError::Fault(Unsound {
                 line: fault.line,
-                kind: Kind::Unread(fault.kind),
+                kind: RefusalKind::Unread(fault.kind),
             }));
         }
     };
@@ -42,7 +42,7 @@ pub fn accepted(alloc: Global, bytes: &[u8]) -> Result<Verified, LinkError>
         Err(VerifyError::NoMemory) => Err(LinkError::NoMemory),
         Err(VerifyError::Fault(fault)) => Err(LinkError::Fault(Unsound {
             line: fault.line,
-            kind: Kind::Unsound(fault.kind),
+            kind: RefusalKind::Unsound(fault.kind),
         })),
     }
 }

@@ -13,12 +13,11 @@ use crate::naming::named;
 use crate::target::given_text;
 use combined_index::{Index, Live};
 use ir_print::print;
-use ir_tree::{GlobalValue, Module, Rows, Text, Verified};
+use ir_tree::{GlobalValue, Module, Rows, TargetLine, Text, Verified};
 use lto_fault::Refusal;
 use merge_meaning::{LiveSymbols, parts};
 use promote_rename::promoted;
 use std::alloc::{AllocError, Global};
-use symbol_resolve::TargetLine;
 use thin_link::{ThinLink, thin_link};
 
 /// What is compiled and joined. The modules needn't stand any longer.

@@ -2,9 +2,8 @@
 ghost use Rattle.std.specs.Prelude.{◌≡◌, IfOk};
 ghost use Rattle.symbol_resolve.specs.Clashes.{given_text, is_given, target_text};
 
-use ir_tree::{Duplicate, Text, Verified};
+use ir_tree::{Duplicate, TargetLine, Text, Verified};
 use std::alloc::{AllocError, Global};
-use symbol_resolve::TargetLine;
 
 fn target_text(line: TargetLine, verified: &Verified) -> &Text
     ensures { result.now ≡ target_text line verified.now }

@@ -8,7 +8,7 @@ use Rattle.lto_sets.specs.Sets.{contains}
 use Rattle.symbol_resolve.specs.Clashes.{IsLeast}
 use Rattle.combined_index.specs.Combined.{Combined, number_of, prevailing_of}
 use Rattle.combined_index.specs.declared.definition.Definition.{Definition}
-use Rattle.liveness.specs.Best.{Found, IsBest, lesser_if}
+use Rattle.liveness.specs.Best.{Candidate, IsBest, lesser_if}
 use Rattle.liveness.specs.Liveness.{AllExported, AreLive, IsDefined, IsLacking, IsLive, IsUndefined, IsUnexported, NoneUndefined, refs, is_host}
 use Rattle.liveness.specs.Marks.{IsLackingAt, IsUnexportedAt, exported, is_lacking}
 use Rattle.liveness.specs.Reach.{leads, starts}
@@ -115,7 +115,7 @@ module _ (c : Combined) (roots : List (List ℕ)) (marks : List Bool) (live : Ar
 
 -- ---- one more symbol, or one more name to be exported
 
-module _ (c : Combined) (marks : List Bool) (i : ℕ) (best : Option Found) (s : Symbol) (there : slice_get c.symbols i ≡ Some s) where
+module _ (c : Combined) (marks : List Bool) (i : ℕ) (best : Option Candidate) (s : Symbol) (there : slice_get c.symbols i ≡ Some s) where
   lacking_one : (name : List ℕ) → IsLackingAt c marks i name → (s.name ≡ name) × (is_lacking c marks i s ≡ true)
   lacking_one name h =
       let same : s ≡ h.0 = some_same (sym there ∙ h.1) in
@@ -126,7 +126,7 @@ module _ (c : Combined) (marks : List Bool) (i : ℕ) (best : Option Found) (s :
       best-more (IsLackingAt c marks) i best s.name (s, there, refl, sym is) (λ other h. sym (lacking_one other h).0) old
   symbol-step false is old = best-same (IsLackingAt c marks) i best (λ name h. false≢true (is ∙ (lacking_one name h).1)) old
 
-module _ (c : Combined) (roots : List (List ℕ)) (i : ℕ) (best : Option Found) (name : List ℕ) (there : slice_get roots i ≡ Some name) where
+module _ (c : Combined) (roots : List (List ℕ)) (i : ℕ) (best : Option Candidate) (name : List ℕ) (there : slice_get roots i ≡ Some name) where
   unexported_one : (other : List ℕ) → IsUnexportedAt c roots i other → name ≡ other
   unexported_one other h = some_same (sym there ∙ h.0)
 

@@ -6,7 +6,7 @@ use Rattle.std.specs.Cmp.Lexicographic.{slice_cmp}
 use Rattle.std.specs.Ordering.{nat_cmp, ordering_reverse}
 use Rattle.std.specs.declared.cmp.Ordering.{Ordering}
 use Rattle.std.specs.declared.cmp.Ordering.TheVariants.{Less, Equal, Greater}
-use Rattle.liveness.specs.Best.{AtMost, Found, IsBest, lesser}
+use Rattle.liveness.specs.Best.{AtMost, Candidate, IsBest, lesser}
 use Rattle.ir_tree.specs.NameOrder.{comes_before, is_less}
 
 -- ---- order
@@ -51,7 +51,7 @@ module _ (holds : ℕ → List ℕ → Type 0) where
   best-none k name h there = absurd (omega (arith, h))
 
   -- nothing holds there
-  pub best-same : (i : ℕ) (best : Option Found) → ((name : List ℕ) → holds i name → ⊥) → IsBest holds i best → IsBest holds (i + 1) best
+  pub best-same : (i : ℕ) (best : Option Candidate) → ((name : List ℕ) → holds i name → ⊥) → IsBest holds i best → IsBest holds (i + 1) best
   best-same i None not old = λ k name h there.
       elim (upto i k h) [ inl l ↦ old k name l there | inr e ↦ not name (subst (λ (z : ℕ). holds z name) e there) ]
   best-same i (Some f) not old = (
@@ -61,7 +61,7 @@ module _ (holds : ℕ → List ℕ → Type 0) where
   )
 
   -- this name alone does
-  pub best-more : (i : ℕ) (best : Option Found) (name : List ℕ) → holds i name → ((other : List ℕ) → holds i other → other ≡ name) → IsBest holds i best → IsBest holds (i + 1) (lesser best (name, i))
+  pub best-more : (i : ℕ) (best : Option Candidate) (name : List ℕ) → holds i name → ((other : List ℕ) → holds i other → other ≡ name) → IsBest holds i best → IsBest holds (i + 1) (lesser best (name, i))
   best-more i None name here one old = (
     omega arith,
     here,

@@ -90,7 +90,7 @@ pub record AreLive (c : Combined) (roots : List (List ℕ)) (marks : List Bool) 
   pub live : (n : ℕ) → IsTrue (contains marks n) ↔ IsLive c roots n
 
 -- what a call gives that may lack memory
-abbrev pub Gives : Combined → List (List ℕ) → Result (List Bool) (Failure Refused) → Type 0
-Gives c roots (Ok marks) = AreLive c roots marks × NoneUndefined c roots × AllExported c roots
-Gives c roots (Err (error.Fault why)) = Refuses c roots why
-Gives c roots (Err error.NoMemory) = Unit {0}
+abbrev pub Decides : Combined → List (List ℕ) → Result (List Bool) (Failure Refused) → Type 0
+Decides c roots (Ok marks) = AreLive c roots marks × NoneUndefined c roots × AllExported c roots
+Decides c roots (Err (error.Fault why)) = Refuses c roots why
+Decides c roots (Err error.NoMemory) = Unit {0}

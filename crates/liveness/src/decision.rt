@@ -1,6 +1,6 @@
 //! The live symbols of a link, or what it lacks.
 ghost use Rattle.std.specs.Prelude.{◌≡◌, length};
-ghost use Rattle.liveness.specs.Liveness.{Gives, AreLive};
+ghost use Rattle.liveness.specs.Liveness.{Decides, AreLive};
 ghost use Rattle.liveness.specs.Marks.{AreReferred, ChecksDefined, ChecksExported};
 
 use crate::least::{least_undefined, least_unexported};
@@ -49,7 +49,7 @@ fn check_exported(alloc: Global, index: &Index, roots: &[Text]) -> Result<(), Li
 /// that has no such definition; of several names the one with the least bytes. Beside want of memory,
 /// an undefined name that `2^32` modules come before is refused as too far.
 pub fn live(alloc: Global, index: &Index, roots: &[Text]) -> Result<Live, LiveError>
-    ensures { Gives index.now roots.now result }
+    ensures { Decides index.now roots.now result }
 {
     let live = reached(alloc, index, roots)?;
     check_defined(alloc, index, &live)?;

@@ -8,7 +8,7 @@ use Rattle.lto_bits.specs.declared.operator.BinaryOp.TheVariants.{Add, Sub, Mul,
 use Rattle.lto_bits.specs.declared.operator.Flags.{Flags}
 use Rattle.lto_bits.specs.declared.answer.Answer.{Answer}
 use Rattle.lto_bits.specs.declared.answer.Answer.TheVariants.{Undefined}
-use Rattle.lto_bits.specs.declared.answer.Cause.{Cause}
+use Rattle.lto_bits.specs.declared.answer.DivisionCause.{DivisionCause}
 use Rattle.lto_bits.specs.Laws.{IsBelow}
 use Rattle.lto_bits.specs.Operation.{arithmetic, value_or_poison, allowed, binary_of, cause_of, breaks, plain}
 use Rattle.lto_bits.specs.Word.{signed, wrapped}
@@ -17,7 +17,7 @@ below_allowed : (w n : ℕ) (t : Bool) → n < 2 ^ w → IsBelow w (value_or_poi
 below_allowed w n true h = h
 below_allowed w n false h = tt
 
-below_division : (w : ℕ) (t : Bool) (cause : Cause) (x : Answer) → IsBelow w x → IsBelow w (cond t (Undefined cause) x)
+below_division : (w : ℕ) (t : Bool) (cause : DivisionCause) (x : Answer) → IsBelow w x → IsBelow w (cond t (Undefined cause) x)
 below_division w true cause x h = tt
 below_division w false cause x h = h
 

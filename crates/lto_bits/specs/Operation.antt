@@ -6,8 +6,8 @@ use Rattle.lto_bits.specs.declared.operator.BinaryOp.TheVariants.{Add, Sub, Mul,
 use Rattle.lto_bits.specs.declared.operator.Flags.{Flags}
 use Rattle.lto_bits.specs.declared.answer.Answer.{Answer}
 use Rattle.lto_bits.specs.declared.answer.Answer.TheVariants.{Value, Poison, Undefined}
-use Rattle.lto_bits.specs.declared.answer.Cause.{Cause}
-use Rattle.lto_bits.specs.declared.answer.Cause.TheVariants.{DivisionByZero, DivisionOverflow}
+use Rattle.lto_bits.specs.declared.answer.DivisionCause.{DivisionCause}
+use Rattle.lto_bits.specs.declared.answer.DivisionCause.TheVariants.{DivisionByZero, DivisionOverflow}
 use Rattle.lto_bits.specs.Word.{signed, wrapped, fits_signed, ashr_of}
 
 -- the number, where no flag forbids it
@@ -51,7 +51,7 @@ abbrev pub breaks : BinaryOp → ℕ → ℕ → ℕ → Bool
 breaks op w a b = may_break op w b && ((b == 0) || (a == 2 ^ (w - 1)))
 
 -- why a division that breaks does so
-abbrev pub cause_of : ℕ → Cause
+abbrev pub cause_of : ℕ → DivisionCause
 cause_of b = if b == 0 then DivisionByZero else DivisionOverflow
 
 abbrev pub value_or_poison : Option ℕ → Answer

@@ -10,12 +10,12 @@ pub enum Answer {
     /// The poison value (LLVM Language Reference, "Poison Values").
     Poison,
     /// Undefined behaviour.
-    Undefined(Cause),
+    Undefined(DivisionCause),
 }
 
 /// Why an integer operation is undefined behaviour, in the order in which causes are looked for.
 #[derive(Clone, Copy, Debug, PartialEq, Eq)]
-pub enum Cause {
+pub enum DivisionCause {
     /// A division or remainder whose divisor is 0.
     DivisionByZero,
     /// `sdiv` or `srem` of the least number by -1.

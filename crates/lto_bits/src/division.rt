@@ -3,7 +3,7 @@ ghost use Rattle.std.specs.Prelude.{◌≡◌, ◌<◌, ◌≤◌, ◌^◌};
 ghost use Rattle.lto_bits.specs.Operation.{division};
 ghost use Rattle.lto_bits.specs.declared.operator.BinaryOp.TheVariants.{Udiv, Sdiv, Urem, Srem};
 
-use crate::answer::{Answer, Cause, value_if};
+use crate::answer::{Answer, DivisionCause, value_if};
 use crate::operator::Flags;
 use crate::word::{greatest, sign_bit, signed, wrap};
 
@@ -13,7 +13,7 @@ pub fn udiv(flags: Flags, w: u8, a: u64, b: u64) -> Answer
     ensures { result ≡ division Udiv flags w a b }
 {
     if b == 0 {
-        return Answer::Undefined(Cause::DivisionByZero);
+        return Answer::Undefined(DivisionCause::DivisionByZero);
     }
     value_if(!flags.exact || a % b == 0, a / b)
 }
@@ -24,7 +24,7 @@ pub fn urem(flags: Flags, w: u8, a: u64, b: u64) -> Answer
     ensures { result ≡ division Urem flags w a b }
 {
     if b == 0 {
-        return Answer::Undefined(Cause::DivisionByZero);
+        return Answer::Undefined(DivisionCause::DivisionByZero);
     }
     Answer::Value(a % b)
 }
@@ -39,10 +39,10 @@ pub fn sdiv(flags: Flags, w: u8, a: u64, b: u64) -> Answer
     ensures { result ≡ division Sdiv flags w a b }
 {
     if b == 0 {
-        return Answer::Undefined(Cause::DivisionByZero);
+        return Answer::Undefined(DivisionCause::DivisionByZero);
     }
     if b == greatest(w) && a == sign_bit(w) {
-        return Answer::Undefined(Cause::DivisionOverflow);
+        return Answer::Undefined(DivisionCause::DivisionOverflow);
     }
     let dividend = signed(w, a);
     let divisor = signed(w, b);
@@ -60,10 +60,10 @@ pub fn srem(flags: Flags, w: u8, a: u64, b: u64) -> Answer
     ensures { result ≡ division Srem flags w a b }
 {
     if b == 0 {
-        return Answer::Undefined(Cause::DivisionByZero);
+        return Answer::Undefined(DivisionCause::DivisionByZero);
     }
     if b == greatest(w) && a == sign_bit(w) {
-        return Answer::Undefined(Cause::DivisionOverflow);
+        return Answer::Undefined(DivisionCause::DivisionOverflow);
     }
     Answer::Value(wrap(w, signed(w, a) % signed(w, b)))
 }

@@ -25,7 +25,7 @@ mod operator;
 mod shift;
 mod word;
 
-pub use answer::{Answer, Cause};
+pub use answer::{Answer, DivisionCause};
 pub use cast::{narrow, widen};
 pub use comparison::compare;
 pub use laws::answers_stay_below;

@@ -4,12 +4,12 @@ use Rattle.std.specs.Prelude.{codes, decimal}
 use Rattle.ir_tree.specs.Names.{quoted}
 use Rattle.ir_tree.specs.declared.fault_kind.FaultKind.TheVariants as fault
 use Rattle.lto_fault.specs.Texts.{as_function, as_variable, at_instruction, cause_text, in_both, in_function, kind_text, place_text, refusal_text, rule_text, symbol_text, target_text}
-use Rattle.lto_fault.specs.declared.cause.Cause.{Cause}
-use Rattle.lto_fault.specs.declared.kind.Kind.{Kind}
-use Rattle.lto_fault.specs.declared.kind.Kind.TheVariants.{Unread, Unsound, BadLine}
+use Rattle.ir_tree.specs.declared.cause.Cause.{Cause}
+use Rattle.lto_fault.specs.declared.kind.RefusalKind.{RefusalKind}
+use Rattle.lto_fault.specs.declared.kind.RefusalKind.TheVariants.{Unread, Unsound, BadLine}
 use Rattle.lto_fault.specs.declared.refusal.Refusal.TheVariants.{BadArguments, DuplicateSymbol, KindClash, NameTaken, NoExport, Refused, TargetClash, Undefined, UndefinedSymbol, Uninit}
-use Rattle.lto_fault.specs.declared.refusal.TargetLine.{TargetLine}
-use Rattle.lto_fault.specs.declared.refusal.TargetLine.TheVariants.{Datalayout, Triple}
+use Rattle.ir_tree.specs.declared.target_line.TargetLine.{TargetLine}
+use Rattle.ir_tree.specs.declared.target_line.TargetLine.TheVariants.{Datalayout, Triple}
 use Rattle.lto_fault.specs.Parts.{kind_word, kind_words}
 
 -- ---- how parts group
@@ -25,7 +25,7 @@ six a b c d e f g = append_assoc ((((a ++ b) ++ c) ++ d) ++ e) f g ∙ five a b 
 
 -- ---- a file's line
 
-kind_parts : (k : Kind) → kind_text k ≡ kind_words k ++ kind_word k
+kind_parts : (k : RefusalKind) → kind_text k ≡ kind_words k ++ kind_word k
 kind_parts (Unread fault.Lex) = refl
 kind_parts (Unread fault.Syntax) = refl
 kind_parts (Unread (fault.Profile word)) = refl
@@ -38,7 +38,7 @@ kind_parts (Unread fault.Index) = refl
 kind_parts (Unsound r) = sym (append-nil (rule_text r))
 kind_parts BadLine = refl
 
-pub refused_line : (file : List ℕ) (line : ℕ) (k : Kind)
+pub refused_line : (file : List ℕ) (line : ℕ) (k : RefusalKind)
     → refusal_text (Refused file line k) ≡ codes "thinlto: " ++ (file ++ (codes ":" ++ (decimal line ++ (codes ": " ++ (kind_words k ++ (kind_word k ++ codes "\n"))))))
 refused_line file line k =
     ap (λ (l : List ℕ). codes "thinlto: " ++ l)

@@ -1,10 +1,10 @@
 -- A fact for one answer of a command. On every other answer each word says nothing.
 use Rattle.std.specs.Prelude.{ℕ, List, Result, Ok, Err, ⊤}
-use Rattle.lto_fault.specs.declared.cause.Cause.{Cause}
-use Rattle.lto_fault.specs.declared.kind.Kind.{Kind}
+use Rattle.ir_tree.specs.declared.cause.Cause.{Cause}
+use Rattle.lto_fault.specs.declared.kind.RefusalKind.{RefusalKind}
 use Rattle.lto_fault.specs.declared.refusal.Refusal.{Refusal}
 use Rattle.lto_fault.specs.declared.refusal.Refusal.TheVariants.{Usage, ReadFault, Refused, TargetClash, DuplicateSymbol, KindClash, UndefinedSymbol, NoExport, NameTaken, BadArguments, WriteFault, Undefined, Uninit, OutOfSteps}
-use Rattle.lto_fault.specs.declared.refusal.TargetLine.{TargetLine}
+use Rattle.ir_tree.specs.declared.target_line.TargetLine.{TargetLine}
 
 abbrev pub OnUsage : {A : Type 0} → Result A Refusal → Type 0 → Type 0
 OnUsage (Err Usage) P = P
@@ -14,7 +14,7 @@ abbrev pub OnReadFault : {A : Type 0} → Result A Refusal → (List ℕ → Typ
 OnReadFault (Err (ReadFault name)) P = P name
 OnReadFault _ P = ⊤
 
-abbrev pub OnRefused : {A : Type 0} → Result A Refusal → (List ℕ → ℕ → Kind → Type 0) → Type 0
+abbrev pub OnRefused : {A : Type 0} → Result A Refusal → (List ℕ → ℕ → RefusalKind → Type 0) → Type 0
 OnRefused (Err (Refused file line kind)) P = P file line kind
 OnRefused _ P = ⊤
 

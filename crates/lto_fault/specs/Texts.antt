@@ -5,26 +5,26 @@ use Rattle.ir_tree.specs.declared.fault_kind.FaultKind.{FaultKind}
 use Rattle.ir_tree.specs.declared.fault_kind.FaultKind.TheVariants as fault
 use Rattle.ir_tree.specs.declared.rule.Rule.{Rule}
 use Rattle.ir_tree.specs.declared.rule.Rule.TheVariants as rule
-use Rattle.lto_fault.specs.declared.cause.Cause.{Cause}
-use Rattle.lto_fault.specs.declared.cause.Cause.TheVariants.{DivisionByZero, DivisionOverflow, PoisonDivisor, PoisonBranch, ReachedUnreachable, NoFunction, OtherType, PoisonArgument, BadPointer, ConstantStore, OutOfBounds, Misaligned}
-use Rattle.lto_fault.specs.declared.kind.Kind.{Kind}
-use Rattle.lto_fault.specs.declared.kind.Kind.TheVariants.{Unread, Unsound, BadLine}
+use Rattle.ir_tree.specs.declared.cause.Cause.{Cause}
+use Rattle.ir_tree.specs.declared.cause.Cause.TheVariants.{DivisionByZero, DivisionOverflow, PoisonDivisor, BranchOnPoison, UnreachableReached, CallOfNoFunction, CallOfAnotherType, PoisonArgument, BadPointer, StoreToConstant, OutOfBounds, Misaligned}
+use Rattle.lto_fault.specs.declared.kind.RefusalKind.{RefusalKind}
+use Rattle.lto_fault.specs.declared.kind.RefusalKind.TheVariants.{Unread, Unsound, BadLine}
 use Rattle.lto_fault.specs.declared.refusal.Refusal.{Refusal}
 use Rattle.lto_fault.specs.declared.refusal.Refusal.TheVariants.{Usage, ReadFault, Refused, TargetClash, DuplicateSymbol, KindClash, UndefinedSymbol, NoExport, NameTaken, BadArguments, WriteFault, NoMemory, Undefined, Uninit, OutOfSteps}
-use Rattle.lto_fault.specs.declared.refusal.TargetLine.{TargetLine}
-use Rattle.lto_fault.specs.declared.refusal.TargetLine.TheVariants.{Datalayout, Triple}
+use Rattle.ir_tree.specs.declared.target_line.TargetLine.{TargetLine}
+use Rattle.ir_tree.specs.declared.target_line.TargetLine.TheVariants.{Datalayout, Triple}
 
 abbrev pub cause_text : Cause → List ℕ
 cause_text DivisionByZero = codes "division by zero"
 cause_text DivisionOverflow = codes "division overflow"
 cause_text PoisonDivisor = codes "poison divisor"
-cause_text PoisonBranch = codes "branch on poison"
-cause_text ReachedUnreachable = codes "unreachable reached"
-cause_text NoFunction = codes "call of no function"
-cause_text OtherType = codes "call of another type"
+cause_text BranchOnPoison = codes "branch on poison"
+cause_text UnreachableReached = codes "unreachable reached"
+cause_text CallOfNoFunction = codes "call of no function"
+cause_text CallOfAnotherType = codes "call of another type"
 cause_text PoisonArgument = codes "poison argument"
 cause_text BadPointer = codes "bad pointer"
-cause_text ConstantStore = codes "store to constant"
+cause_text StoreToConstant = codes "store to constant"
 cause_text OutOfBounds = codes "out of bounds"
 cause_text Misaligned = codes "misaligned"
 
@@ -49,7 +49,7 @@ rule_text rule.Index = codes "bad index"
 rule_text rule.Cast = codes "bad cast"
 rule_text rule.CaseTwice = codes "case twice"
 
-abbrev pub kind_text : Kind → List ℕ
+abbrev pub kind_text : RefusalKind → List ℕ
 kind_text (Unread fault) = fault_text fault
 kind_text (Unsound rule) = rule_text rule
 kind_text BadLine = codes "bad list line"

@@ -3,7 +3,7 @@ use ir_tree::{FaultKind, Rule};
 
 /// Why a file is read as no sound module, or as no list of links.
 #[derive(Drop)]
-pub enum Kind {
+pub enum RefusalKind {
     /// The text is read as no module; a file of more than 16 MiB passes a limit.
     Unread(FaultKind),
     /// The module that it is read as breaks this rule of soundness.

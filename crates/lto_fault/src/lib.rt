@@ -1,7 +1,7 @@
 //! What a command says at its end: the linker's refusals, with their exit status and exact text, and the line of a run
 //! that returned; and how they are sent to a sink of bytes.
 //!
-//! [`Refusal`] has a variant for each answer, and [`Kind`] one for each kind of fault in a file. [`say`] sends the line
+//! [`Refusal`] has a variant for each answer, and [`RefusalKind`] one for each kind of fault in a file. [`say`] sends the line
 //! of a refusal, [`say_returned`] the line of a run that returned, and [`push_all`] any bytes. Below stand
 //! `lto_outside` for sinks, `ir_tree` for texts and for how names are printed, and `itoa` for numbers.
 //!
@@ -15,7 +15,6 @@
 //! **Not shown.** That memory is found for [`text`].
 #![tactic(auto)]
 
-mod cause;
 mod kind;
 mod line;
 mod message;
@@ -24,10 +23,9 @@ mod refusal;
 mod returned;
 mod symbol;
 
-pub use cause::Cause;
-pub use kind::Kind;
+pub use kind::RefusalKind;
 pub use line::say;
 pub use message::text;
 pub use parts::push_all;
-pub use refusal::{Refusal, TargetLine, status};
+pub use refusal::{Refusal, status};
 pub use returned::{Returned, say_returned};

@@ -7,12 +7,11 @@ ghost use Rattle.lto_fault.specs.Pushing.{Hears, Pushes, joined, note_of};
 ghost use Rattle.lto_fault.specs.Parts.{fault_words, kind_word, kind_words};
 ghost use Rattle.lto_fault.specs.declared.refusal.Refusal.TheVariants.{OutOfSteps, Refused, TargetClash};
 
-use crate::cause::Cause;
-use crate::kind::Kind;
+use crate::kind::RefusalKind;
 use crate::parts::{push_all, push_eight, push_three};
-use crate::refusal::{Refusal, TargetLine};
+use crate::refusal::Refusal;
 use crate::symbol::push_quoted;
-use ir_tree::{FaultKind, Rule, Text};
+use ir_tree::{Cause, FaultKind, Rule, TargetLine, Text};
 use itoa::Buffer;
 use lto_outside::ByteOut;
 
@@ -49,22 +48,22 @@ fn rule_words(rule: Rule) -> &'static [u8]
 }
 
 /// The words of a kind, without the word that isn't covered.
-fn kind_words(kind: &Kind) -> &'static [u8]
+fn kind_words(kind: &RefusalKind) -> &'static [u8]
     ensures { result.now ≡ kind_words kind.now }
 {
     match kind {
-        Kind::Unread(fault) => fault_words(fault),
-        Kind::Unsound(rule) => rule_words(*rule),
-        Kind::BadLine => b"bad list line",
+        RefusalKind::Unread(fault) => fault_words(fault),
+        RefusalKind::Unsound(rule) => rule_words(*rule),
+        RefusalKind::BadLine => b"bad list line",
     }
 }
 
 /// The word that isn't covered, if there is one.
-fn kind_word(kind: &Kind) -> &[u8]
+fn kind_word(kind: &RefusalKind) -> &[u8]
     ensures { result.now ≡ kind_word kind.now }
 {
     match kind {
-        Kind::Unread(FaultKind::Profile { word }) => word.as_slice(),
+        RefusalKind::Unread(FaultKind::Profile { word }) => word.as_slice(),
         _ => b"",
     }
 }
@@ -76,13 +75,13 @@ fn cause_words(cause: Cause) -> &'static [u8]
         Cause::DivisionByZero => b"division by zero",
         Cause::DivisionOverflow => b"division overflow",
         Cause::PoisonDivisor => b"poison divisor",
-        Cause::PoisonBranch => b"branch on poison",
-        Cause::ReachedUnreachable => b"unreachable reached",
-        Cause::NoFunction => b"call of no function",
-        Cause::OtherType => b"call of another type",
+        Cause::BranchOnPoison => b"branch on poison",
+        Cause::UnreachableReached => b"unreachable reached",
+        Cause::CallOfNoFunction => b"call of no function",
+        Cause::CallOfAnotherType => b"call of another type",
         Cause::PoisonArgument => b"poison argument",
         Cause::BadPointer => b"bad pointer",
-        Cause::ConstantStore => b"store to constant",
+        Cause::StoreToConstant => b"store to constant",
         Cause::OutOfBounds => b"out of bounds",
         Cause::Misaligned => b"misaligned",
     }
@@ -187,7 +186,7 @@ fn push_place<'a, N: ByteOut>(
 }
 
 /// A file's line and its fault.
-fn push_refused<N: ByteOut>(out: &mut N, file: &Text, line: u64, kind: &Kind) -> bool
+fn push_refused<N: ByteOut>(out: &mut N, file: &Text, line: u64, kind: &RefusalKind) -> bool
     ensures pushed { Pushes (stream_seen N.sent N.faults out.old out.new) (refusal_text (Refused file.now line kind.now)) result }
     ensures later { N.faults out.old ≤ N.faults out.new }
 {

@@ -2,16 +2,8 @@
 ghost use Rattle.std.specs.Prelude.{◌≡◌};
 ghost use Rattle.lto_fault.specs.Statuses.{status_of};
 
-use crate::cause::Cause;
-use crate::kind::Kind;
-use ir_tree::Text;
-
-/// A line that says what a module is compiled for.
-#[derive(Clone, Copy, Debug, PartialEq, Eq)]
-pub enum TargetLine {
-    Datalayout,
-    Triple,
-}
+use crate::kind::RefusalKind;
+use ir_tree::{Cause, TargetLine, Text};
 
 /// Any answer of a command but success. `file`, `first` and `second` are names of files as they were given; other names
 /// are names of symbols without their sigil.
@@ -27,7 +19,7 @@ pub enum Refusal {
     Refused {
         file: Text,
         line: u64,
-        kind: Kind,
+        kind: RefusalKind,
     },
     /// Two files are compiled for different targets.
     TargetClash {

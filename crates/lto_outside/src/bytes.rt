@@ -2,7 +2,7 @@
 ghost use Rattle.std.specs.Prelude.{◌≡◌, ◌≤◌, ℕ, List, [], ◌∷◌, Option, OnOk, OnErr};
 ghost use Rattle.std.specs.Io.KnownBytes.{Keeps, Appends};
 ghost use Rattle.lto_outside.specs.Cause.{Rose};
-ghost use Rattle.lto_outside.specs.Bytes.{Gives};
+ghost use Rattle.lto_outside.specs.Bytes.{Yields};
 
 use crate::fault::Fault;
 
@@ -16,7 +16,7 @@ pub trait ByteIn {
 
     /// The next byte, or none where no byte is left. After a fault what is left is as before.
     fn next(&mut self) -> Result<Option<u8>, Fault>
-        ensures byte { Gives (left self.old) (left self.new) result }
+        ensures byte { Yields (left self.old) (left self.new) result }
         ensures later { faults self.old ≤ faults self.new }
         ensures cause { OnErr result (Rose (faults self.old) (faults self.new)) };
 

@@ -10,8 +10,8 @@ use Rattle.lto_words.specs.Laws.{OneCommand}
 use Rattle.lto_words.specs.declared.list.Decimal.{Decimal}
 use Rattle.lto_words.specs.declared.request.Command.{Command}
 use Rattle.lto_words.specs.declared.request.Command.TheVariants.{Link, Batch, Index, Run, Gen}
-use Rattle.lto_words.specs.declared.request.Kind.{Kind}
-use Rattle.lto_words.specs.declared.request.Kind.TheVariants as kind
+use Rattle.lto_words.specs.declared.request.CommandKind.{CommandKind}
+use Rattle.lto_words.specs.declared.request.CommandKind.TheVariants as kind
 use Rattle.lto_words.specs.declared.request.LinkOptions.{LinkOptions}
 
 one_value : {T : Type 0} (D : T → Type 0) (M : Text → T → Type 0) (o : Option Text) (x y : T)
@@ -112,7 +112,7 @@ one_gen rows (Gen first count workers) (Gen other number others) h k =
 one_gen rows (Gen first count workers) d h k = absurd k
 one_gen rows c d h k = absurd h
 
-one_of_kind : (k : Kind) (rows : List Row) (c d : Command) → Means k rows c → Means k rows d → c ≡ d
+one_of_kind : (k : CommandKind) (rows : List Row) (c d : Command) → Means k rows c → Means k rows d → c ≡ d
 one_of_kind kind.Link = one_link
 one_of_kind kind.Batch = one_batch
 one_of_kind kind.Index = one_index
@@ -123,7 +123,7 @@ one_entered : (found : Option (Text × List Row)) (c d : Command) → MeansEnter
 one_entered None c d h k = absurd h
 one_entered (Some p) c d h k = go (kind_named p.0) h k
   where
-    go : (o : Option Kind) → MatchOption o ⊥ (λ x. Means x p.1 c) → MatchOption o ⊥ (λ x. Means x p.1 d) → c ≡ d
+    go : (o : Option CommandKind) → MatchOption o ⊥ (λ x. Means x p.1 c) → MatchOption o ⊥ (λ x. Means x p.1 d) → c ≡ d
     go None h k = absurd h
     go (Some x) h k = one_of_kind x p.1 c d h k
 

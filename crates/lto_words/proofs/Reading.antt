@@ -12,7 +12,7 @@ use Rattle.clap.specs.declared.parser.matches.ArgMatches.TheViews.{out-ArgMatche
 use Rattle.lto_words.specs.Commands.{HasLinkOptions, IsBatch, IsCommand, IsGen, IsGiven, IsIndex, IsLink, IsRun, MeansEntered, Parses, Takes, entered, is_stop, without_words}
 use Rattle.lto_words.specs.Given.{HasArgs, HasExports, HasFile, HasFiles, HasNumber, HasRoot, OrDefault}
 use Rattle.lto_words.specs.Table.{import_limit, jobs, modules, seed, steps}
-use Rattle.lto_words.specs.Reads.{Reads}
+use Rattle.lto_words.specs.Reads.{Tells}
 use Rattle.lto_words.specs.declared.fault.WordsError.{WordsError}
 use Rattle.lto_words.specs.declared.fault.WordsError.TheVariants.{Usage, NoMemory}
 use Rattle.lto_words.specs.declared.list.Decimal.{Decimal}
@@ -41,21 +41,21 @@ pub found_is : (m : ArgMatches) (n : Text) (r : List Row) → Some n ≡ subcomm
 found_is m n r = pair_found (λ b. (out-SubCommand (box_value b)).name.now) (λ b. rows_of (found_of (out-SubCommand (box_value b)).matches)) (out-ArgMatches m).subcommand n r
 
 -- a refusal goes up: what is meant has a part, and there is none
-pub refused : {T U : Type 0} (M : T → Type 0) (N : U → Type 0) → ((y : U) → N y → (x : T) × M x) → (r : Result U WordsError) (e : WordsError) → IsErrAnd r (λ y. y ≡ e) → Reads M (Err e) → Reads N r
+pub refused : {T U : Type 0} (M : T → Type 0) (N : U → Type 0) → ((y : U) → N y → (x : T) × M x) → (r : Result U WordsError) (e : WordsError) → IsErrAnd r (λ y. y ≡ e) → Tells M (Err e) → Tells N r
 refused M N part (Ok y) e is h = absurd is
 refused M N part (Err Usage) e is h =
-    let none : Reads M (Err Usage) = subst (λ (y : WordsError). Reads M (Err y)) (sym is) h in
+    let none : Tells M (Err Usage) = subst (λ (y : WordsError). Tells M (Err y)) (sym is) h in
     λ y meant. let x = part y meant in none x.0 x.1
 refused M N part (Err NoMemory) e is h = tt
 
 -- ---- the value of an option
 
 module _ {T : Type 0} (IsDefault : T → Type 0) (Means : Text → T → Type 0) (given : Option Text) where
-  pub text_given : (text : Text) (r : Result T WordsError) → Some text ≡ given → Reads (Means text) r → Reads (OrDefault IsDefault Means given) r
-  text_given text r is = subst (λ (o : Option Text). Reads (OrDefault IsDefault Means o) r) is
+  pub text_given : (text : Text) (r : Result T WordsError) → Some text ≡ given → Tells (Means text) r → Tells (OrDefault IsDefault Means given) r
+  text_given text r is = subst (λ (o : Option Text). Tells (OrDefault IsDefault Means o) r) is
 
-  pub none_given : (r : Result T WordsError) → None ≡ given → Reads IsDefault r → Reads (OrDefault IsDefault Means given) r
-  none_given r is = subst (λ (o : Option Text). Reads (OrDefault IsDefault Means o) r) is
+  pub none_given : (r : Result T WordsError) → None ≡ given → Tells IsDefault r → Tells (OrDefault IsDefault Means given) r
+  none_given r is = subst (λ (o : Option Text). Tells (OrDefault IsDefault Means o) r) is
 
 -- ---- what a command is made of
 
@@ -80,7 +80,7 @@ of_gen rows (Gen first count workers) h = (first, count, workers, h.0, h.1, h.2)
 of_gen rows c h = absurd h
 
 -- words that don't fit are no command
-pub not_parsed : (words : List Text) (r : Result Command WordsError) (e : WordsError) → IsErrAnd r (λ y. y ≡ e) → Parses words (Err e) → Reads (IsGiven words) r
+pub not_parsed : (words : List Text) (r : Result Command WordsError) (e : WordsError) → IsErrAnd r (λ y. y ≡ e) → Parses words (Err e) → Tells (IsGiven words) r
 not_parsed words (Ok c) e is h = absurd is
 not_parsed words (Err Usage) e is h =
     let no : Parses words (Err Usage) = subst (λ (y : WordsError). Parses words (Err y)) (sym is) h in
@@ -88,7 +88,7 @@ not_parsed words (Err Usage) e is h =
 not_parsed words (Err NoMemory) e is h = tt
 
 -- words that fit are the command that is read from what was found
-pub read : (words : List Text) (found : Option (Text × List Row)) (r : Result Command WordsError) → list_any is_stop words ≡ false → Takes words → found ≡ entered words → Reads (MeansEntered found) r → Reads (IsGiven words) r
+pub read : (words : List Text) (found : Option (Text × List Row)) (r : Result Command WordsError) → list_any is_stop words ≡ false → Takes words → found ≡ entered words → Tells (MeansEntered found) r → Tells (IsGiven words) r
 read words found (Ok c) stops takes is h = record { stops = stops; takes = takes; means = subst (λ (o : Option (Text × List Row)). MeansEntered o c) is h }
 read words found (Err Usage) stops takes is h = λ c given. h c (subst (λ (o : Option (Text × List Row)). MeansEntered o c) (sym is) given.means)
 read words found (Err NoMemory) stops takes is h = tt
@@ -98,6 +98,6 @@ module _ {X : Type 0} (text : X → Text) where
   no_words [] c none is = is
   no_words (word ∷ words) c none is = absurd (search (rules, tests))
 
-  pub some_words : (words : List X) (r : Result Command WordsError) → (length words == 0) ≡ false → Reads (IsGiven (map text words)) r → Reads (IsCommand (map text words)) r
+  pub some_words : (words : List X) (r : Result Command WordsError) → (length words == 0) ≡ false → Tells (IsGiven (map text words)) r → Tells (IsCommand (map text words)) r
   some_words [] r some h = absurd (cc some)
   some_words (word ∷ words) r some h = h

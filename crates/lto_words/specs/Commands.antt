@@ -10,8 +10,8 @@ use Rattle.lto_words.specs.Table.{import_limit, inline_limit, jobs, modules, see
 use Rattle.lto_words.specs.Given.{HasArgs, HasCache, HasExports, HasFile, HasFiles, HasNumber, HasRoot}
 use Rattle.lto_words.specs.declared.request.Command.{Command}
 use Rattle.lto_words.specs.declared.request.Command.TheVariants.{Link, Batch, Index, Run, Gen}
-use Rattle.lto_words.specs.declared.request.Kind.{Kind}
-use Rattle.lto_words.specs.declared.request.Kind.TheVariants as kind
+use Rattle.lto_words.specs.declared.request.CommandKind.{CommandKind}
+use Rattle.lto_words.specs.declared.request.CommandKind.TheVariants as kind
 use Rattle.lto_words.specs.declared.request.LinkOptions.{LinkOptions}
 
 -- ---- what the words of each command mean
@@ -44,7 +44,7 @@ abbrev pub IsGen : List Row → Command → Type 0
 IsGen rows (Gen first count workers) = HasNumber seed rows first × HasNumber modules rows count × HasNumber jobs rows workers
 IsGen rows _ = ⊥
 
-abbrev pub Means : Kind → List Row → Command → Type 0
+abbrev pub Means : CommandKind → List Row → Command → Type 0
 Means kind.Link = IsLink
 Means kind.Batch = IsBatch
 Means kind.Index = IsIndex
@@ -52,7 +52,7 @@ Means kind.Run = IsRun
 Means kind.Gen = IsGen
 
 -- the command of a name
-abbrev pub kind_named : Text → Option Kind
+abbrev pub kind_named : Text → Option CommandKind
 kind_named name =
     if bytes_eq name (codes "link") then Some kind.Link
     else if bytes_eq name (codes "batch") then Some kind.Batch

@@ -2,7 +2,7 @@
 ghost use Rattle.std.specs.Prelude.{◌≡◌, ◌∷◌, [], map, option_map, IfOk, codes};
 ghost use Rattle.clap.specs.Words.{all_of, first_of};
 ghost use Rattle.clap.specs.Walk.{texts};
-ghost use Rattle.lto_words.specs.Reads.{Reads};
+ghost use Rattle.lto_words.specs.Reads.{Tells};
 ghost use Rattle.lto_words.specs.Given.{HasArgs, HasCache, HasExports, HasFile, HasFiles, HasNumber, HasRoot, are_files, rows_in};
 ghost use Rattle.lto_words.specs.Values.{IsName};
 
@@ -36,7 +36,7 @@ pub(crate) fn number_given(
     matches: &ArgMatches<'_>,
     option: NumberOption,
 ) -> Result<u32, WordsError>
-    ensures { Reads (HasNumber (record { name = option.name.now; least = option.least; most = option.most; default = option.default }) (rows_in matches.now)) result }
+    ensures { Tells (HasNumber (record { name = option.name.now; least = option.least; most = option.most; default = option.default }) (rows_in matches.now)) result }
 {
     let value = match given(matches, option.name) {
         Some(text) => number(text, option.least, option.most),
@@ -46,7 +46,7 @@ pub(crate) fn number_given(
 }
 
 fn file_name(alloc: Global, text: &str) -> Result<FileName, WordsError>
-    ensures { Reads (IsName text.now) result }
+    ensures { Tells (IsName text.now) result }
 {
     if text.is_empty() {
         return Err(WordsError::Usage);
@@ -55,7 +55,7 @@ fn file_name(alloc: Global, text: &str) -> Result<FileName, WordsError>
 }
 
 fn symbol(alloc: Global, text: &str) -> Result<Text, WordsError>
-    ensures { Reads (IsName text.now) result }
+    ensures { Tells (IsName text.now) result }
 {
     if text.is_empty() {
         return Err(WordsError::Usage);
@@ -67,7 +67,7 @@ pub(crate) fn cache_given(
     alloc: Global,
     matches: &ArgMatches<'_>,
 ) -> Result<Option<FileName>, WordsError>
-    ensures { Reads (HasCache (rows_in matches.now)) result }
+    ensures { Tells (HasCache (rows_in matches.now)) result }
 {
     match given(matches, "cache") {
         Some(text) => Ok(Some(file_name(alloc, text)?)),
@@ -79,7 +79,7 @@ pub(crate) fn exports_given(
     alloc: Global,
     matches: &ArgMatches<'_>,
 ) -> Result<Rows<Text>, WordsError>
-    ensures { Reads (HasExports (rows_in matches.now)) result }
+    ensures { Tells (HasExports (rows_in matches.now)) result }
 {
     match given(matches, "export") {
         Some(list) => names(alloc, list),
@@ -88,7 +88,7 @@ pub(crate) fn exports_given(
 }
 
 pub(crate) fn root_given(alloc: Global, matches: &ArgMatches<'_>) -> Result<Text, WordsError>
-    ensures { Reads (HasRoot (rows_in matches.now)) result }
+    ensures { Tells (HasRoot (rows_in matches.now)) result }
 {
     match given(matches, "root") {
         Some(text) => symbol(alloc, text),
@@ -100,7 +100,7 @@ pub(crate) fn args_given(
     alloc: Global,
     matches: &ArgMatches<'_>,
 ) -> Result<Rows<Decimal>, WordsError>
-    ensures { Reads (HasArgs (rows_in matches.now)) result }
+    ensures { Tells (HasArgs (rows_in matches.now)) result }
 {
     match given(matches, "args") {
         Some(list) => decimals(alloc, list),
@@ -114,7 +114,7 @@ pub(crate) fn file_given(
     matches: &ArgMatches<'_>,
     name: &str,
 ) -> Result<FileName, WordsError>
-    ensures { Reads (HasFile name.now (rows_in matches.now)) result }
+    ensures { Tells (HasFile name.now (rows_in matches.now)) result }
 {
     match given(matches, name) {
         Some(text) => file_name(alloc, text),
@@ -143,7 +143,7 @@ pub(crate) fn files_given(
     alloc: Global,
     matches: &ArgMatches<'_>,
 ) -> Result<Rows<FileName>, WordsError>
-    ensures { Reads (HasFiles (rows_in matches.now)) result }
+    ensures { Tells (HasFiles (rows_in matches.now)) result }
 {
     let Some(names) = all_given(matches, "FILE") else {
         return Err(WordsError::Usage);

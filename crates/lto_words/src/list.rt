@@ -3,7 +3,7 @@ ghost use Rattle.std.specs.Prelude.{◌≡◌, ◌++◌, map, option_map, IfOk, 
 ghost use Rattle.std.specs.List.{list_any};
 ghost use Rattle.clap.specs.Lexer.{strip_byte};
 ghost use Rattle.clap.specs.Walk.{texts};
-ghost use Rattle.lto_words.specs.Reads.{Reads};
+ghost use Rattle.lto_words.specs.Reads.{Tells};
 ghost use Rattle.lto_words.specs.Values.{AreDecimals, AreNames, decimal, is_empty, once, parts, signed};
 
 use crate::fault::WordsError;
@@ -88,7 +88,7 @@ fn once(alloc: Global, parts: &[&str]) -> Result<Rows<Text>, AllocError>
 
 /// A list of names.
 pub(crate) fn names(alloc: Global, list: &str) -> Result<Rows<Text>, WordsError>
-    ensures { Reads (AreNames list.now) result }
+    ensures { Tells (AreNames list.now) result }
 {
     let parts = parts(alloc, list)?;
     if has_empty(&parts) {
@@ -99,7 +99,7 @@ pub(crate) fn names(alloc: Global, list: &str) -> Result<Rows<Text>, WordsError>
 
 /// A list of signed decimals.
 fn all_decimals(alloc: Global, parts: &[&str]) -> Result<Rows<Decimal>, WordsError>
-    ensures { Reads (λ numbers. map decimal (texts parts.now) ≡ map (λ d. Some d) numbers) result }
+    ensures { Tells (λ numbers. map decimal (texts parts.now) ≡ map (λ d. Some d) numbers) result }
 {
     let mut numbers = Rows::new(alloc);
     for part in parts {
@@ -112,7 +112,7 @@ fn all_decimals(alloc: Global, parts: &[&str]) -> Result<Rows<Decimal>, WordsErr
 }
 
 pub(crate) fn decimals(alloc: Global, list: &str) -> Result<Rows<Decimal>, WordsError>
-    ensures { Reads (AreDecimals list.now) result }
+    ensures { Tells (AreDecimals list.now) result }
 {
     let parts = parts(alloc, list)?;
     all_decimals(alloc, &parts)

@@ -1,6 +1,6 @@
 //! The commands, and how each is read from what is given for it.
 ghost use Rattle.std.specs.Prelude.{◌≡◌};
-ghost use Rattle.lto_words.specs.Reads.{Reads};
+ghost use Rattle.lto_words.specs.Reads.{Tells};
 ghost use Rattle.lto_words.specs.Given.{rows_in};
 ghost use Rattle.lto_words.specs.Commands.{HasLinkOptions, IsBatch, IsGen, IsIndex, IsLink, IsRun, Means, kind_named};
 
@@ -67,7 +67,7 @@ pub enum Command {
 
 /// The commands without what is given for them.
 #[derive(Clone, Copy)]
-pub(crate) enum Kind {
+pub(crate) enum CommandKind {
     Link,
     Batch,
     Index,
@@ -76,21 +76,21 @@ pub(crate) enum Kind {
 }
 
 /// The command of a name.
-pub(crate) fn kind_named(name: &str) -> Option<Kind>
+pub(crate) fn kind_named(name: &str) -> Option<CommandKind>
     ensures { result ≡ kind_named name.now }
 {
     match name {
-        "link" => Some(Kind::Link),
-        "batch" => Some(Kind::Batch),
-        "index" => Some(Kind::Index),
-        "run" => Some(Kind::Run),
-        "gen" => Some(Kind::Gen),
+        "link" => Some(CommandKind::Link),
+        "batch" => Some(CommandKind::Batch),
+        "index" => Some(CommandKind::Index),
+        "run" => Some(CommandKind::Run),
+        "gen" => Some(CommandKind::Gen),
         _ => None,
     }
 }
 
 fn link_options(alloc: Global, matches: &ArgMatches<'_>) -> Result<LinkOptions, WordsError>
-    ensures { Reads (HasLinkOptions (rows_in matches.now)) result }
+    ensures { Tells (HasLinkOptions (rows_in matches.now)) result }
 {
     let jobs = number_given(matches, JOBS)?;
     let import_limit = number_given(matches, IMPORT_LIMIT)?;
@@ -107,7 +107,7 @@ fn link_options(alloc: Global, matches: &ArgMatches<'_>) -> Result<LinkOptions, 
 }
 
 fn link(alloc: Global, matches: &ArgMatches<'_>) -> Result<Command, WordsError>
-    ensures { Reads (IsLink (rows_in matches.now)) result }
+    ensures { Tells (IsLink (rows_in matches.now)) result }
 {
     let options = link_options(alloc, matches)?;
     let out = file_given(alloc, matches, "o")?;
@@ -120,7 +120,7 @@ fn link(alloc: Global, matches: &ArgMatches<'_>) -> Result<Command, WordsError>
 }
 
 fn batch(alloc: Global, matches: &ArgMatches<'_>) -> Result<Command, WordsError>
-    ensures { Reads (IsBatch (rows_in matches.now)) result }
+    ensures { Tells (IsBatch (rows_in matches.now)) result }
 {
     let options = link_options(alloc, matches)?;
     let list = file_given(alloc, matches, "LISTFILE")?;
@@ -128,7 +128,7 @@ fn batch(alloc: Global, matches: &ArgMatches<'_>) -> Result<Command, WordsError>
 }
 
 fn index(alloc: Global, matches: &ArgMatches<'_>) -> Result<Command, WordsError>
-    ensures { Reads (IsIndex (rows_in matches.now)) result }
+    ensures { Tells (IsIndex (rows_in matches.now)) result }
 {
     let import_limit = number_given(matches, IMPORT_LIMIT)?;
     let exports = exports_given(alloc, matches)?;
@@ -141,7 +141,7 @@ fn index(alloc: Global, matches: &ArgMatches<'_>) -> Result<Command, WordsError>
 }
 
 fn run(alloc: Global, matches: &ArgMatches<'_>) -> Result<Command, WordsError>
-    ensures { Reads (IsRun (rows_in matches.now)) result }
+    ensures { Tells (IsRun (rows_in matches.now)) result }
 {
     let steps = number_given(matches, STEPS)?;
     let root = root_given(alloc, matches)?;
@@ -156,7 +156,7 @@ fn run(alloc: Global, matches: &ArgMatches<'_>) -> Result<Command, WordsError>
 }
 
 fn generate(matches: &ArgMatches<'_>) -> Result<Command, WordsError>
-    ensures { Reads (IsGen (rows_in matches.now)) result }
+    ensures { Tells (IsGen (rows_in matches.now)) result }
 {
     let seed = number_given(matches, SEED)?;
     let modules = number_given(matches, MODULES)?;
@@ -171,16 +171,16 @@ fn generate(matches: &ArgMatches<'_>) -> Result<Command, WordsError>
 /// The command of a kind, from what is given for it.
 pub(crate) fn requested(
     alloc: Global,
-    kind: Kind,
+    kind: CommandKind,
     matches: &ArgMatches<'_>,
 ) -> Result<Command, WordsError>
-    ensures { Reads (Means kind (rows_in matches.now)) result }
+    ensures { Tells (Means kind (rows_in matches.now)) result }
 {
     match kind {
-        Kind::Link => link(alloc, matches),
-        Kind::Batch => batch(alloc, matches),
-        Kind::Index => index(alloc, matches),
-        Kind::Run => run(alloc, matches),
-        Kind::Gen => generate(matches),
+        CommandKind::Link => link(alloc, matches),
+        CommandKind::Batch => batch(alloc, matches),
+        CommandKind::Index => index(alloc, matches),
+        CommandKind::Run => run(alloc, matches),
+        CommandKind::Gen => generate(matches),
     }
 }

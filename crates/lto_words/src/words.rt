@@ -2,7 +2,7 @@
 ghost use Rattle.std.specs.Prelude.{◌≡◌, ◌∷◌, [], map, string_bytes, IfOk, codes};
 ghost use Rattle.std.specs.List.{list_any};
 ghost use Rattle.clap.specs.Words.{subcommand_rows_of};
-ghost use Rattle.lto_words.specs.Reads.{Reads};
+ghost use Rattle.lto_words.specs.Reads.{Tells};
 ghost use Rattle.lto_words.specs.Commands.{IsCommand, IsGiven, MeansEntered, Parses, is_stop, without_words};
 
 use crate::fault::WordsError;
@@ -67,7 +67,7 @@ fn without_words(alloc: Global) -> Result<Command, AllocError>
 
 /// The command that a parse found, which has to be one of the table's.
 fn entered(alloc: Global, matches: &ArgMatches<'_>) -> Result<Command, WordsError>
-    ensures { Reads (MeansEntered (subcommand_rows_of matches.now)) result }
+    ensures { Tells (MeansEntered (subcommand_rows_of matches.now)) result }
 {
     let Some((name, given)) = matches.subcommand() else {
         return Err(WordsError::Usage);
@@ -80,7 +80,7 @@ fn entered(alloc: Global, matches: &ArgMatches<'_>) -> Result<Command, WordsErro
 
 /// The command of words, of which there is one at least.
 fn given(alloc: Global, words: &[String]) -> Result<Command, WordsError>
-    ensures { Reads (IsGiven (map string_bytes words.now)) result }
+    ensures { Tells (IsGiven (map string_bytes words.now)) result }
 {
     if has_stop(words) {
         return Err(WordsError::Usage);
@@ -94,7 +94,7 @@ fn given(alloc: Global, words: &[String]) -> Result<Command, WordsError>
 /// Options stand in any order, as `--jobs 2` or `--jobs=2` and `-o OUT` or `-oOUT`; a value that begins with `-` is
 /// joined, as `--args=-5`, but for `-` alone.
 pub fn command(alloc: Global, words: &[String]) -> Result<Command, WordsError>
-    ensures { Reads (IsCommand (map string_bytes words.now)) result }
+    ensures { Tells (IsCommand (map string_bytes words.now)) result }
 {
     if words.is_empty() {
         return Ok(without_words(alloc)?);

@@ -5,7 +5,7 @@ use Rattle.ir_tree.specs.Formed.{Distinct}
 use Rattle.ir_tree.specs.Wholes.{symbols}
 use Rattle.ir_tree.specs.declared.module.GlobalValue.{GlobalValue}
 use Rattle.ir_tree.specs.declared.operand.Symbol.{Symbol}
-use Rattle.ir_meaning.specs.Frame.{AFunction, AHost, AVariable, Kind, Missing, named}
+use Rattle.ir_meaning.specs.Frame.{AFunction, AHost, AVariable, SymbolKind, Missing, named}
 use Rattle.ir_meaning.specs.Memory.{Memory as MeantMemory}
 use Rattle.ir_meaning.specs.declared.value.Base.TheVariants.{Code}
 use Rattle.ir_meaning.specs.declared.value.Value.TheVariants.{Pointer}
@@ -31,7 +31,7 @@ address_from t s offset v e = subst (λ (x : Scalar). IsFrom t x) (sym e) (by (b
   by None f = tt
   by (Some b) f = inr (s, f)
 
-address_means : (names : List Symbol) (i : ℕ) (s : Symbol) (kind : Kind) (size offset : ℕ) → symbol_at names i ≡ s → meant names (address_at (base_of i kind size) offset) ≡ named kind s offset
+address_means : (names : List Symbol) (i : ℕ) (s : Symbol) (kind : SymbolKind) (size offset : ℕ) → symbol_at names i ≡ s → meant names (address_at (base_of i kind size) offset) ≡ named kind s offset
 address_means names i s (AFunction params result) size offset e = ap (λ (x : Symbol). Pointer (Code x) offset) e
 address_means names i s (AHost host) size offset e = ap (λ (x : Symbol). Pointer (Code x) offset) e
 address_means names i s (AVariable n) size offset e = refl
@@ -65,10 +65,10 @@ has_addresses gs once t h s offset = by (stands gs s) where
       subst (λ (x : Symbol). meant (symbols gs) (address_at (base_in t x) offset) ≡ named ((signature_of gs).kind x) x offset) same
       (ap (λ (b : Option Base). meant (symbols gs) (address_at b offset)) (h.found i g here)
       ∙ address_means (symbols gs) i (symbol_of g) (kind_at (number_at 0 gs i) g) (bytes_of g) offset (symbol_is gs i g here)
-      ∙ ap (λ (k : Kind). named k (symbol_of g) offset) (sym (kind_is gs once i g here)))
+      ∙ ap (λ (k : SymbolKind). named k (symbol_of g) offset) (sym (kind_is gs once i g here)))
   by (inr none) =
       ap (λ (b : Option Base). meant (symbols gs) (address_at b offset)) (no_base gs s none t h)
-      ∙ ap (λ (k : Kind). named k s offset) (sym (missing gs s none))
+      ∙ ap (λ (k : SymbolKind). named k s offset) (sym (missing gs s none))
 
 -- what an address is based on is a function of the table or a block as its handle says
 pub base_valid : (gs : List GlobalValue) (m : Memory) (memory : MeantMemory) → HoldsVariables gs m memory → (at : Symbol) (b : Base) → IsBased gs at b → IsBase m memory b × IsNamed (symbols gs) b
@@ -76,7 +76,7 @@ base_valid gs m memory holds at b d = by (kind_at (number_at 0 gs d.index) d.val
   function : Function d.index ≡ b → IsBase m memory b × IsNamed (symbols gs) b
   function is = subst (λ (x : Base). IsBase m memory x × IsNamed (symbols gs) x) is (tt, slice_get_within (symbols gs) d.index (symbol_of d.value) (got_symbol gs d.index d.value d.there))
 
-  by : (kind : Kind) → kind_at (number_at 0 gs d.index) d.value ≡ kind → base_of d.index kind (bytes_of d.value) ≡ Some b → IsBase m memory b × IsNamed (symbols gs) b
+  by : (kind : SymbolKind) → kind_at (number_at 0 gs d.index) d.value ≡ kind → base_of d.index kind (bytes_of d.value) ≡ Some b → IsBase m memory b × IsNamed (symbols gs) b
   by (AFunction params result) k f = let is : Function d.index ≡ b = cc f in function is
   by (AHost host) k f = let is : Function d.index ≡ b = cc f in function is
   by (AVariable n) k f =

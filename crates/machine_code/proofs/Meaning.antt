@@ -17,7 +17,7 @@ use Rattle.ir_interp.specs.Tasks.{CanRun}
 use Rattle.ir_interp.specs.declared.phis.Edge.{Edge}
 use Rattle.ir_interp.specs.declared.phis.Phi.{Phi}
 use Rattle.ir_interp.specs.Lines.{IsLine}
-use Rattle.ir_interp.specs.declared.line.Line.{Line}
+use Rattle.ir_interp.specs.declared.line.CodeLine.{CodeLine}
 use Rattle.ir_interp.specs.Code.{IsBlock, IsBlockKnown, counted_before}
 use Rattle.ir_interp.specs.declared.code.Block.{Block}
 use Rattle.machine_code.specs.Addresses.{AreValid, HasAddresses}
@@ -59,7 +59,7 @@ module _ (t : Addresses) (names : List Symbol) (sig : Signature) (h : HasAddress
     lines = λ n l line gl gline. line_means l line (zip_got (IsLineFor t) b.lines c.lines.items n l line f.lines gl gline);
     exit = λ locals. f.exit.means names sig h locals;
   } where
-    line_means : (l : MeantLine) (line : Line) → IsLineFor t l line → IsLine names sig l line
+    line_means : (l : MeantLine) (line : CodeLine) → IsLineFor t l line → IsLine names sig l line
     line_means l line g = record { local = g.local; task = λ locals. g.task.means names sig h locals }
 
 -- ---- what is known before the run
@@ -86,5 +86,5 @@ module _ (t : Addresses) (names : List Symbol) (m : Memory) (memory : MeantMemor
 
 -- ---- lines can run
 
-pub line_runs : (t : Addresses) (blocks : List MeantBlock) (before : ℕ) (b : MeantBlock) (c : Block) → IsBlockFor t blocks before b c → (k : ℕ) (line : Line) → slice_get c.lines.items k ≡ Some line → CanRun line.task
+pub line_runs : (t : Addresses) (blocks : List MeantBlock) (before : ℕ) (b : MeantBlock) (c : Block) → IsBlockFor t blocks before b c → (k : ℕ) (line : CodeLine) → slice_get c.lines.items k ≡ Some line → CanRun line.task
 line_runs t blocks before b c f k line g = let l = zip_other (IsLineFor t) b.lines c.lines.items k line f.lines g in l.1.1.task.can

@@ -11,7 +11,7 @@ use Rattle.ir_tree.specs.declared.module.GlobalValue.TheVariants as global
 use Rattle.ir_tree.specs.declared.operand.Reg.{Reg}
 use Rattle.ir_tree.specs.declared.operand.Reg.TheVariants.{Int, Ptr}
 use Rattle.ir_tree.specs.declared.operand.Symbol.{Symbol}
-use Rattle.ir_meaning.specs.Frame.{AFunction, AHost, AVariable, Kind, Missing}
+use Rattle.ir_meaning.specs.Frame.{AFunction, AHost, AVariable, SymbolKind, Missing}
 use Rattle.ir_machine.specs.declared.scalar.Base.{Base}
 use Rattle.ir_machine.specs.declared.scalar.Base.TheVariants as base
 use Rattle.ir_interp.specs.Calls.{IsKind}
@@ -65,7 +65,7 @@ long_types (p ∷ ps) = omega (arith, long_types ps)
 
 -- ---- indices
 
-index_based : (k i : ℕ) (kind : Kind) (size : ℕ) → base_of k kind size ≡ Some (base.Function i) → k ≡ i
+index_based : (k i : ℕ) (kind : SymbolKind) (size : ℕ) → base_of k kind size ≡ Some (base.Function i) → k ≡ i
 index_based k i (AFunction params result) size e = cc e
 index_based k i (AHost host) size e = cc e
 index_based k i (AVariable n) size e = absurd (cc e)
@@ -95,7 +95,7 @@ kind_defined n f l = by (defined_blocks f) l where
   by (b ∷ bs) h = refl
 
 kind_known : (x : Entity) (n : ℕ) (f : MeantFunction) → 0 < length (defined_blocks f) → IsKind x (kind_at n (global.Function f)) → IsKind x (AFunction (regs_of f.params) f.result)
-kind_known x n f l k = subst (λ (z : Kind). IsKind x z) (kind_defined n f l) k
+kind_known x n f l k = subst (λ (z : SymbolKind). IsKind x z) (kind_defined n f l) k
 
 made_code : (l : Lowered) (g : GlobalValue) (f : Function) → IsBodyFor l.addresses g (Some f) → (m : MeantFunction) × ((g ≡ global.Function m) × ((0 < length (defined_blocks m)) × IsFunctionFor l.addresses m f))
 made_code l (global.Variable v) f k = absurd (cc k)
@@ -130,7 +130,7 @@ is_root gs l name i types h at integers (f, (code, count)) =
     let e = some_entity (slice_get l.code.entities.items i) types integers in
     let kind = zip_got IsEntityFor gs l.code.entities.items i d.value e.0 h.entities here e.1.0 (number_at 0 gs i) in
     let defined : kind_at (number_at 0 gs i) d.value ≡ AFunction (regs_of m.0.params) m.0.result = ap (λ (x : GlobalValue). kind_at (number_at 0 gs i) x) m.1.0 ∙ kind_defined (number_at 0 gs i) m.0 m.1.1.0 in
-    let is : IsKind e.0 (AFunction (regs_of m.0.params) m.0.result) = subst (λ (x : Kind). IsKind e.0 x) defined kind in
+    let is : IsKind e.0 (AFunction (regs_of m.0.params) m.0.result) = subst (λ (x : SymbolKind). IsKind e.0 x) defined kind in
     let found = integers_got (regs_of m.0.params) types (e.1.1 ∙ integers_all m.0 e.0 is) in
     record {
       function = m.0;
@@ -149,7 +149,7 @@ module _ (gs : List GlobalValue) (l : Lowered) (name : List ℕ) (i : ℕ) (type
   root_indexed =
       ap (λ (o : Option Base). index_in o)
       (sym (ap (λ (s : Symbol). base_in l.addresses s) r.named) ∙ h.table.found i (global.Function r.function) there
-      ∙ ap (λ (k : Kind). base_of i k 0) (kind_defined (number_at 0 gs i) r.function r.defined))
+      ∙ ap (λ (k : SymbolKind). base_of i k 0) (kind_defined (number_at 0 gs i) r.function r.defined))
 
   pub root_integers : integers_of (slice_get l.code.entities.items i) ≡ Some types
   root_integers =

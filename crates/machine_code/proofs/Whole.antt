@@ -13,7 +13,7 @@ use Rattle.ir_tree.specs.declared.module.GlobalValue.{GlobalValue}
 use Rattle.ir_tree.specs.declared.module.GlobalValue.TheVariants as global
 use Rattle.ir_tree.specs.declared.operand.Reg.{Reg}
 use Rattle.ir_tree.specs.declared.operand.Symbol.{Symbol}
-use Rattle.ir_meaning.specs.Frame.{AFunction, Kind, Signature}
+use Rattle.ir_meaning.specs.Frame.{AFunction, SymbolKind, Signature}
 use Rattle.ir_meaning.specs.Memory.{Memory as MeantMemory}
 use Rattle.ir_machine.specs.declared.memory.Memory.{Memory}
 use Rattle.ir_machine.specs.declared.scalar.Base.{Base}
@@ -77,7 +77,7 @@ module _ (gs : List GlobalValue) (once : Distinct (symbols gs)) (t : Addresses) 
     kinds = λ i e f.
         let g = zip_other IsEntityFor gs code.entities.items i e entities f in
         subst (λ (s : Symbol). IsKind e (sig.kind s)) (sym (symbol_is gs i g.0 g.1.0))
-        (subst (λ (k : Kind). IsKind e k) (sym (kind_is gs once i g.0 g.1.0)) (g.1.1 (number_at 0 gs i)));
+        (subst (λ (k : SymbolKind). IsKind e k) (sym (kind_is gs once i g.0 g.1.0)) (g.1.1 (number_at 0 gs i)));
   }
 
   long_regs : (ps : List Param) → length (regs_of ps) ≡ length ps

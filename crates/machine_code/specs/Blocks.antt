@@ -20,7 +20,7 @@ use Rattle.ir_interp.specs.declared.phis.Phi.{Phi}
 use Rattle.ir_interp.specs.Exits.{IsExitKnown, exit_meant}
 use Rattle.ir_interp.specs.declared.exit.Case.{Case}
 use Rattle.ir_interp.specs.declared.exit.Exit.{Exit}
-use Rattle.ir_interp.specs.declared.line.Line.{Line}
+use Rattle.ir_interp.specs.declared.line.CodeLine.{CodeLine}
 use Rattle.ir_interp.specs.Code.{at_positions, counted_before, locals_of, position}
 use Rattle.ir_interp.specs.declared.code.Block.{Block}
 use Rattle.ir_interp.specs.declared.code.Function.{Function}
@@ -51,7 +51,7 @@ pub record IsPhi (t : Addresses) (p : MeantPhi) (q : Phi) : Type 0 where
 
 -- ---- lines
 
-pub record IsLineFor (t : Addresses) (l : MeantLine) (line : Line) : Type 0 where
+pub record IsLineFor (t : Addresses) (l : MeantLine) (line : CodeLine) : Type 0 where
   pub local : line.local ≡ l.local
   pub task : IsTask t l.instr line.task
 

@@ -4,7 +4,7 @@ use Rattle.ir_tree.specs.declared.block.Block.{Block as MeantBlock}
 use Rattle.ir_tree.specs.declared.function.Function.{Function as MeantFunction}
 use Rattle.ir_tree.specs.declared.module.GlobalValue.{GlobalValue}
 use Rattle.ir_tree.specs.declared.module.GlobalValue.TheVariants as global
-use Rattle.ir_meaning.specs.Frame.{AHost, Kind, Missing}
+use Rattle.ir_meaning.specs.Frame.{AHost, SymbolKind, Missing}
 use Rattle.ir_interp.specs.Calls.{IsKind, host_meant}
 use Rattle.ir_interp.specs.declared.callee.Entity.{Entity}
 use Rattle.ir_interp.specs.declared.host.Host.{Host}
@@ -17,7 +17,7 @@ use Rattle.machine_code.specs.declared.addresses.Addresses.{Addresses}
 -- ---- what symbols are
 
 -- a function of the outside, or none
-abbrev pub host_kind : Option Host → Kind
+abbrev pub host_kind : Option Host → SymbolKind
 host_kind None = Missing
 host_kind (Some host) = AHost (host_meant host)
 

@@ -5,7 +5,7 @@ use Rattle.ir_tree.specs.Symbols.{symbol_eq}
 use Rattle.ir_tree.specs.declared.module.GlobalValue.{GlobalValue}
 use Rattle.ir_tree.specs.declared.module.GlobalValue.TheVariants as global
 use Rattle.ir_tree.specs.declared.operand.Symbol.{Symbol}
-use Rattle.ir_meaning.specs.Frame.{AFunction, AHost, AVariable, Kind, Missing}
+use Rattle.ir_meaning.specs.Frame.{AFunction, AHost, AVariable, SymbolKind, Missing}
 use Rattle.ir_machine.specs.declared.scalar.Base.{Base}
 use Rattle.ir_machine.specs.declared.scalar.Base.TheVariants.{Block, Function}
 use Rattle.ir_meaning.specs.Programs.{behind, defined, kind_of, symbol_of}
@@ -21,10 +21,10 @@ number_at n (g ∷ gs) zero = n
 number_at n (g ∷ gs) (suc i) = number_at (behind n (defined n g)) gs i
 
 -- what the global is in its program, where the next variable has number n
-abbrev pub kind_at : ℕ → GlobalValue → Kind
+abbrev pub kind_at : ℕ → GlobalValue → SymbolKind
 kind_at n g = kind_of true (symbol_of g) (defined n g)
 
-abbrev pub is_outside : Kind → Bool
+abbrev pub is_outside : SymbolKind → Bool
 is_outside (AFunction params result) = false
 is_outside (AHost host) = true
 is_outside (AVariable n) = false
@@ -37,7 +37,7 @@ bytes_of (global.Variable v) = layout.size v.shape
 bytes_of (global.Function f) = 0
 
 -- functions are known by their index in the table, variables by the block of their number
-abbrev pub base_of : ℕ → Kind → ℕ → Option Base
+abbrev pub base_of : ℕ → SymbolKind → ℕ → Option Base
 base_of i (AFunction params result) size = Some (Function i)
 base_of i (AHost host) size = Some (Function i)
 base_of i (AVariable n) size = Some (Block (record { number = n; position = n; size = size }))

@@ -8,7 +8,7 @@ ghost use Rattle.machine_code.specs.Tasks.{IsSoundInstr};
 
 use crate::addresses::Addresses;
 use crate::positions::Positions;
-use ir_interp::{Block, Function, Line};
+use ir_interp::{Block, CodeLine, Function};
 use ir_tree::Param;
 use std::alloc::{AllocError, Global};
 
@@ -56,12 +56,12 @@ fn param_registers(alloc: Global, params: &[Param]) -> Result<Vec<u32>, AllocErr
 
 impl<'a> Addresses<'a> {
     /// A line of a block.
-    fn line<'i>(&self, alloc: Global, line: &'i ir_tree::Line) -> Result<Line<'i>, AllocError>
+    fn line<'i>(&self, alloc: Global, line: &'i ir_tree::Line) -> Result<CodeLine<'i>, AllocError>
         requires { IsSoundInstr line.now.instr }
         ensures { IfOk result (λ made. IsLineFor self.now line.entry.now made) }
     {
         let task = self.task(alloc, &line.instr)?;
-        Ok(Line {
+        Ok(CodeLine {
             local: line.local,
             task,
         })
@@ -72,7 +72,7 @@ impl<'a> Addresses<'a> {
         &self,
         alloc: Global,
         lines: &'i [ir_tree::Line],
-    ) -> Result<Vec<Line<'i>>, AllocError>
+    ) -> Result<Vec<CodeLine<'i>>, AllocError>
         requires { All (λ l. IsSoundInstr l.instr) lines.now }
         ensures { IfOk result (λ all. AllZip (IsLineFor self.now) lines.entry.now all.items) }
     {

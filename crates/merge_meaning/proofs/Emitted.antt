@@ -13,7 +13,7 @@ use Rattle.ir_tree.specs.declared.module.GlobalValue.{GlobalValue}
 use Rattle.ir_tree.specs.declared.operand.Operand.{Operand}
 use Rattle.ir_tree.specs.declared.operand.Operand.TheVariants.{Local, Null, Number as Constant, Poison as PoisonOf, Symbol as Named}
 use Rattle.ir_tree.specs.declared.operand.Symbol.{Symbol}
-use Rattle.ir_meaning.specs.Frame.{AFunction, AHost, AVariable, GetChar, Kind, Missing, PutChar, named, value_of}
+use Rattle.ir_meaning.specs.Frame.{AFunction, AHost, AVariable, GetChar, SymbolKind, Missing, PutChar, named, value_of}
 use Rattle.ir_meaning.specs.Memory.{MemoryBlock}
 use Rattle.ir_meaning.specs.Program.{variables}
 use Rattle.ir_meaning.specs.Refine.{Naming, RefinesUnder, own_names}
@@ -84,19 +84,19 @@ host_stays t None name = by (bytes_eq name (codes "putchar")) (bytes_eq name (co
     by false true = refl
     by false false = refl
 
-kind_missing : (t : Naming) (k : Kind) → kind_under t k ≡ Missing → k ≡ Missing
+kind_missing : (t : Naming) (k : SymbolKind) → kind_under t k ≡ Missing → k ≡ Missing
 kind_missing t (AFunction params result) e = absurd (cc e)
 kind_missing t (AVariable number) e = absurd (cc e)
 kind_missing t (AHost host) e = absurd (cc e)
 kind_missing t Missing e = refl
 
-named_under : (t : Naming) (k : Kind) (s : Symbol) (offset : ℕ) → named (kind_under t k) (t.symbol s) offset ≡ value_under t (named k s offset)
+named_under : (t : Naming) (k : SymbolKind) (s : Symbol) (offset : ℕ) → named (kind_under t k) (t.symbol s) offset ≡ value_under t (named k s offset)
 named_under t (AFunction params result) s offset = refl
 named_under t (AVariable number) s offset = refl
 named_under t (AHost host) s offset = refl
 named_under t Missing s offset = refl
 
-named_reaches : (t : Naming) (live : Symbol → Bool) (k : Kind) (s : Symbol) (offset : ℕ) → live s ≡ true → ((number : ℕ) → k ≡ AVariable number → IsThere t number)
+named_reaches : (t : Naming) (live : Symbol → Bool) (k : SymbolKind) (s : Symbol) (offset : ℕ) → live s ≡ true → ((number : ℕ) → k ≡ AVariable number → IsThere t number)
     → ValueReaches t live (named k s offset)
 named_reaches t live (AFunction params result) s offset lives there = lives
 named_reaches t live (AVariable number) s offset lives there = there number refl
@@ -292,7 +292,7 @@ module _ (live : Symbol → Bool) (final : Symbol → Symbol) (hs ls : List Glob
   moves (Constant w bits) k = refl
   moves Null k = refl
   moves (PoisonOf reg) k = refl
-  moves (Named s offset) k = ap (λ (x : Kind). named x (final s) offset) (kinds s k) ∙ named_under fin ((program_of hs).signature.kind s) s offset
+  moves (Named s offset) k = ap (λ (x : SymbolKind). named x (final s) offset) (kinds s k) ∙ named_under fin ((program_of hs).signature.kind s) s offset
 
   reaches : (o : Operand) → OperandNames live o → ValueReaches names live (old_value o)
   reaches (Local x) k = tt

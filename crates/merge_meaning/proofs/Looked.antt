@@ -13,7 +13,7 @@ use Rattle.ir_tree.specs.declared.module.GlobalValue.{GlobalValue}
 use Rattle.ir_tree.specs.declared.module.GlobalValue.TheVariants as global
 use Rattle.ir_tree.specs.declared.operand.Operand.{Operand}
 use Rattle.ir_tree.specs.declared.operand.Symbol.{Symbol}
-use Rattle.ir_meaning.specs.Frame.{AFunction, AHost, AVariable, GetChar, Kind, Missing, PutChar}
+use Rattle.ir_meaning.specs.Frame.{AFunction, AHost, AVariable, GetChar, SymbolKind, Missing, PutChar}
 use Rattle.ir_meaning.specs.Memory.{Memory}
 use Rattle.ir_tree.specs.Symbols.{symbol_eq}
 use Rattle.ir_meaning.specs.declared.value.Value.{Value}
@@ -289,7 +289,7 @@ pub long_unknown : (gs : List GlobalValue) (s : Symbol) → weight (symbols gs) 
     → ((program_of gs).signature.kind s ≡ Missing) × ((program_of gs).code s ≡ None)
 long_unknown gs s long = by (definition_of gs s) refl
   where
-    host : (k : Kind) → undefined_kind s.home s.name ≡ k → undefined_kind s.home s.name ≡ Missing
+    host : (k : SymbolKind) → undefined_kind s.home s.name ≡ k → undefined_kind s.home s.name ≡ Missing
     host Missing e = e
     host (AFunction params result) e = let short = (known_host s.home s.name (symbols gs) (λ m. cc (e, m))).1 in absurd (omega (arith, long, short))
     host (AVariable number) e = let short = (known_host s.home s.name (symbols gs) (λ m. cc (e, m))).1 in absurd (omega (arith, long, short))

@@ -15,7 +15,7 @@ use Rattle.ir_tree.specs.declared.operand.Operand.{Operand}
 use Rattle.ir_tree.specs.declared.operand.Operand.TheVariants.{Local, Number as Constant, Null, Poison as PoisonOf, Symbol as Named}
 use Rattle.ir_tree.specs.declared.operand.Symbol.{Symbol}
 use Rattle.ir_tree.specs.Edited.{argument_edited, incoming_edited, with_operands}
-use Rattle.ir_meaning.specs.Frame.{AFunction, AHost, AVariable, Kind, Missing}
+use Rattle.ir_meaning.specs.Frame.{AFunction, AHost, AVariable, SymbolKind, Missing}
 use Rattle.ir_meaning.specs.Memory.{MemoryBlock}
 use Rattle.ir_meaning.specs.Refine.{Naming, own_names}
 use Rattle.ir_meaning.specs.declared.value.Base.TheVariants.{Cell, Code, Nowhere}
@@ -108,7 +108,7 @@ cell_stays n l = by (cases_lt l n)
     by (inl lt) = cell_variable (own_names n) l lt
     by (inr le) = let x = cell_slot (own_names n) l le in omega (arith, x, le)
 
-pub kind_stays : (n : ℕ) (k : Kind) → kind_under (own_names n) k ≡ k
+pub kind_stays : (n : ℕ) (k : SymbolKind) → kind_under (own_names n) k ≡ k
 kind_stays n (AFunction params result) = refl
 kind_stays n (AVariable number) = ap (λ (x : ℕ). AVariable x) (cell_stays n number)
 kind_stays n (AHost host) = refl

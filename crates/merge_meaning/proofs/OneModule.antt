@@ -20,8 +20,8 @@ use Rattle.ir_meaning.specs.Rename.{block_under}
 use Rattle.ir_meaning.specs.Programs.{Definition, behind, body_of, defined, definition_from, opening_from, or_else, program_of, storage_in, storage_of, symbol_of}
 use Rattle.symbol_resolve.specs.Mentions.{Mention, function_standing, is_strong, is_weak, mention, mentioned, mentions, modules_with, standing_of as standing_with, variable_standing}
 use Rattle.symbol_resolve.specs.Prevailing.{first, or_else as either, prevailing}
-use Rattle.symbol_resolve.specs.declared.mention.Kind.{Kind}
-use Rattle.symbol_resolve.specs.declared.mention.Kind.TheVariants as kind
+use Rattle.symbol_resolve.specs.declared.mention.SymbolKind.{SymbolKind}
+use Rattle.symbol_resolve.specs.declared.mention.SymbolKind.TheVariants as kind
 use Rattle.symbol_resolve.specs.declared.mention.Standing.{Standing}
 use Rattle.symbol_resolve.specs.declared.mention.Standing.TheVariants as standing
 use Rattle.merge_meaning.specs.Globals.{function_under, global_under, initial_under, initials_under, named_by, variable_under}
@@ -75,7 +75,7 @@ itself : (name : List ℕ) → bytes_eq name name ≡ true
 itself name = (bytes_eq-Decides name name).1 refl
 
 -- a mention in module 0
-abbrev told : List ℕ → Kind → Standing → Mention
+abbrev told : List ℕ → SymbolKind → Standing → Mention
 told n of st = record { number = 0; name = n; kind = of; standing = st }
 
 abbrev numbers : List Mention → List ℕ
@@ -86,7 +86,7 @@ passing test name ms = filter (λ m. bytes_eq name m.name && test m) ms
 
 -- what is true of module 0 stays true of the first module, whatever is mentioned before
 module _ (P : Option ℕ → Type 0) (first_is : P (Some 0)) (test : Mention → Bool) (name : List ℕ) where
-  mentioned_keeps : (n : List ℕ) (of : Kind) (st : Option Standing) (rest : List Mention)
+  mentioned_keeps : (n : List ℕ) (of : SymbolKind) (st : Option Standing) (rest : List Mention)
       → P (first (modules_with test rest name)) → P (first (modules_with test (mentioned 0 n of st ++ rest) name))
   mentioned_keeps n of None rest h = h
   mentioned_keeps n of (Some st) rest h = by (bytes_eq name n && test (told n of st))
@@ -110,7 +110,7 @@ at_most_zero : (test : Mention → Bool) (name : List ℕ) (gs : List GlobalValu
 at_most_zero test name [] = tt
 at_most_zero test name (g ∷ gs) = mention_keeps AtMostZero refl test name g (flat_map (mention 0) gs) (at_most_zero test name gs)
 
-mentioned_first : (test : Mention → Bool) (n : List ℕ) (of : Kind) (st : Standing) (rest : List Mention)
+mentioned_first : (test : Mention → Bool) (n : List ℕ) (of : SymbolKind) (st : Standing) (rest : List Mention)
     → test (told n of st) ≡ true → first (modules_with test (mentioned 0 n of (Some st) ++ rest) n) ≡ Some 0
 mentioned_first test n of st rest t =
     ap (λ (b : Bool). first (numbers
@@ -119,7 +119,7 @@ mentioned_first test n of st rest t =
     (and_from (bytes_eq n n) (test (told n of st)) (itself n) t)
 
 mention_first : (test : Mention → Bool) (g : GlobalValue) (st : Standing) (rest : List Mention) → standing_of g ≡ Some st
-    → ((n : List ℕ) (of : Kind) → test (told n of st) ≡ true)
+    → ((n : List ℕ) (of : SymbolKind) → test (told n of st) ≡ true)
     → first (modules_with test (mention 0 g ++ rest) (symbol_of g).name) ≡ Some 0
 mention_first test (global.Variable v) st rest e t =
     subst (λ (o : Option Standing). first (modules_with test (mentioned 0 v.symbol.name kind.Variable o ++ rest) v.symbol.name) ≡ Some 0) (sym e)
@@ -132,7 +132,7 @@ some_global : (g h : GlobalValue) → ◌≡◌ {A = Option GlobalValue} (Some g
 some_global g h e = cc e
 
 found_first : (test : Mention → Bool) (gs : List GlobalValue) (j : ℕ) (g : GlobalValue) (st : Standing) → slice_get gs j ≡ Some g → standing_of g ≡ Some st
-    → ((n : List ℕ) (of : Kind) → test (told n of st) ≡ true)
+    → ((n : List ℕ) (of : SymbolKind) → test (told n of st) ≡ true)
     → first (modules_with test (flat_map (mention 0) gs) (symbol_of g).name) ≡ Some 0
 found_first test [] j g st at e t = absurd (cc at)
 found_first test (h ∷ gs) zero g st at e t =

@@ -7,7 +7,7 @@ use Rattle.std.proofs.lemmas.List.{length-map, map-append, take-map}
 use Rattle.std.proofs.lemmas.List.Elements.{All-map}
 use Rattle.std.proofs.lemmas.List.Sums.{sum_by-cons}
 use Rattle.std.proofs.lemmas.Option.{slice_get-map}
-use Rattle.ir_tree.specs.Flow.{Available, AvailableAt, AvailableAtEnd, Equations, IsMarked, availability, defined_before, defined_in, definitions, edges, entry_row, holds, leading, leading_to, line_count, locals, parameters, repeated, results, room, targets}
+use Rattle.ir_tree.specs.Flow.{Available, AvailableAt, AvailableAtEnd, Equations, IsMarked, availability, defined_before, defined_in, definitions, edges, entry_row, holds, leading, leading_to, line_count, locals, parameters, repeated, results, room, successors}
 use Rattle.ir_tree.specs.Formed.{ArgumentFormed, CasesFormed, Distinct, Formed, InstrFormed, IsBlock, ItemFormed, KindFormed, OperandFormed, ResultFormed, numbers}
 use Rattle.ir_tree.specs.Forms.{Form, int, pointer, array, structure}
 use Rattle.ir_tree.specs.Items.{Item, phi_item, line_item, end_item, block_items, end_reads, entries, items, items_from, lines_from, operands, phi_reads, reads, taken, taken_as, typed}
@@ -221,7 +221,7 @@ module _ (t : Naming) where
 
   -- ---- edges
 
-  targets_same : (e : Terminator) → targets (end_under t e) ≡ targets e
+  targets_same : (e : Terminator) → successors (end_under t e) ≡ successors e
   targets_same (Return argument) = refl
   targets_same (Jump target) = refl
   targets_same (Branch condition if_true if_false) = refl
@@ -338,8 +338,8 @@ module _ (t : Naming) (f : Function) where
   cases_formed (Switch width value default cases) h = h
   cases_formed Unreachable h = tt
 
-  targets_all : (P Q : ℕ → Type 0) (e : Terminator) → ((n : ℕ) → P n → Q n) → All P (targets e) → All Q (targets (end_under t e))
-  targets_all P Q e g h = all_along Q (targets e) (targets (end_under t e)) (sym (targets_same t e)) (all_then P Q (targets e) g h)
+  targets_all : (P Q : ℕ → Type 0) (e : Terminator) → ((n : ℕ) → P n → Q n) → All P (successors e) → All Q (successors (end_under t e))
+  targets_all P Q e g h = all_along Q (successors e) (successors (end_under t e)) (sym (targets_same t e)) (all_then P Q (successors e) g h)
 
   kind_formed : (item : Item) → KindFormed f item → KindFormed (function_under t f) (item_under t item)
   kind_formed (phi_item b phi) h = h

@@ -17,7 +17,7 @@ use Rattle.ir_names.specs.declared.fault.Fault.{Fault}
 use Rattle.ir_names.specs.declared.fault.NameFault.TheVariants.{Limit, Unknown}
 use Rattle.ir_names.specs.Bodies.{allocated}
 use Rattle.ir_names.specs.Keys.{Key, key_of, same_key}
-use Rattle.ir_names.specs.Settled.{◌>>=◌, each}
+use Rattle.ir_names.specs.Resolving.{◌>>=◌, each}
 use Rattle.ir_names.specs.Stages.{Passes, passes}
 use Rattle.ir_names.specs.TypeNames.{place_of}
 use Rattle.ir_names.specs.Types as typing

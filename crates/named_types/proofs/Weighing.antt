@@ -2,7 +2,7 @@
 use Rattle.std.proofs.Common.{◌≡◌, refl, ap, ℕ, List, [], ◌∷◌, Option, Result, Ok}
 use Rattle.ir_read.specs.Shapes.{Written, parts_of}
 use Rattle.ir_names.specs.declared.fault.Fault.{Fault}
-use Rattle.ir_names.specs.Settled.{◌>>=◌, each}
+use Rattle.ir_names.specs.Resolving.{◌>>=◌, each}
 use Rattle.ir_names.specs.Types.{Types}
 use Rattle.named_types.specs.declared.measure.Measure.{Measure}
 use Rattle.named_types.specs.declared.weigh.Known.{Known}

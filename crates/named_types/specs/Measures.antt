@@ -11,7 +11,7 @@ use Rattle.ir_tree.specs.Layout.{rounded, IsLaidOut}
 use Rattle.ir_names.specs.declared.fault.Fault.{Fault}
 use Rattle.ir_names.specs.Keys.{key_of}
 use Rattle.ir_names.specs.Locals.{unknown}
-use Rattle.ir_names.specs.Settled.{◌>>=◌}
+use Rattle.ir_names.specs.Resolving.{◌>>=◌}
 use Rattle.ir_names.specs.Stages.{Passes, passes}
 use Rattle.ir_names.specs.TypeNames.{place_of}
 use Rattle.ir_names.specs.Types.{Types, shape_at, head_from, chased, is_width, limit, expand}

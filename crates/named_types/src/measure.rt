@@ -1,7 +1,7 @@
 //! Sizes, alignments and levels of shapes whose parts are measured (LangRef, "Data Layout").
 ghost use Rattle.std.specs.Option.{SomeIff};
 ghost use Rattle.std.specs.Prelude.{◌≡◌, ◌≤◌, ◌<◌, ◌^◌, ◌+◌, max, suc, IfOk};
-ghost use Rattle.ir_names.specs.Settled.{Settles};
+ghost use Rattle.ir_names.specs.Resolving.{ResolvesTo};
 ghost use Rattle.ir_tree.specs.Layout.{rounded};
 ghost use Rattle.named_types.specs.Measures as measures;
 ghost use Rattle.named_types.specs.Measures.{IsSmall, AreSmall, begins, ends, widest, deepest_of, struct_size, struct_align};
@@ -26,7 +26,7 @@ pub struct Measure {
 fn within(line: u32, size: u64, align: u64, levels: u32) -> Result<Measure, ResolveError>
     requires least { 1 ≤ align }
     requires most { align ≤ 8 }
-    ensures given { Settles (λ m. m) result (measures.within line (measures.measure size align levels)) }
+    ensures given { ResolvesTo (λ m. m) result (measures.within line (measures.measure size align levels)) }
     ensures small { IfOk result (λ m. IsSmall m) }
 {
     if size <= MOST && levels <= NESTING {
@@ -42,7 +42,7 @@ fn within(line: u32, size: u64, align: u64, levels: u32) -> Result<Measure, Reso
 
 /// An integer.
 pub fn scalar(line: u32, width: u8) -> Result<Measure, ResolveError>
-    ensures given { Settles (λ m. m) result (measures.scalar line width) }
+    ensures given { ResolvesTo (λ m. m) result (measures.scalar line width) }
     ensures small { IfOk result (λ m. IsSmall m) }
 {
     if 8 <= width && width <= 64 {
@@ -60,7 +60,7 @@ pub fn scalar(line: u32, width: u8) -> Result<Measure, ResolveError>
 /// An array of so many of a shape.
 pub fn array_of(line: u32, count: u64, of: Measure) -> Result<Measure, ResolveError>
     requires { IsSmall of }
-    ensures given { Settles (λ m. m) result (measures.array_of line count of) }
+    ensures given { ResolvesTo (λ m. m) result (measures.array_of line count of) }
     ensures small { IfOk result (λ m. IsSmall m) }
 {
     match count.checked_mul(of.size) {
@@ -151,7 +151,7 @@ fn struct_align(packed: bool, parts: &[Measure]) -> u64
 #[tactic(auto, using(crate::proofs::Small::deepest_most))]
 pub fn structure_of(line: u32, packed: bool, parts: &[Measure]) -> Result<Measure, ResolveError>
     requires { AreSmall parts.now }
-    ensures given { Settles (λ m. m) result (measures.structure_of line packed parts.now) }
+    ensures given { ResolvesTo (λ m. m) result (measures.structure_of line packed parts.now) }
     ensures small { IfOk result (λ m. IsSmall m) }
 {
     match struct_size(packed, parts) {

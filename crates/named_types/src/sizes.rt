@@ -1,7 +1,7 @@
 //! What type names stand for, measured once each.
 ghost use Rattle.std.specs.Prelude.{◌≡◌, ℕ, IfOk, IfSome, Some, nat_eq, false};
 ghost use Rattle.ir_names.specs.Bodies.{allocated};
-ghost use Rattle.ir_names.specs.Settled.{Settles};
+ghost use Rattle.ir_names.specs.Resolving.{ResolvesTo};
 ghost use Rattle.ir_names.specs.Stages.{passes};
 ghost use Rattle.ir_names.specs.Types.{expanded, shape_at};
 ghost use Rattle.ir_read.specs.Shapes.{named};
@@ -186,7 +186,7 @@ fn known_of<'t>(
 /// Whether so many of a shape of this measure are within the limits.
 fn array_fits(line: u32, count: u64, of: Measure) -> Result<(), ResolveError>
     requires { IsSmall of }
-    ensures { Settles (λ u. u) result (many_fit line count of) }
+    ensures { ResolvesTo (λ u. u) result (many_fit line count of) }
 {
     array_of(line, count, of)?;
     Ok(())
@@ -225,7 +225,7 @@ impl<'s, 't> Sizes<'s, 't> {
     /// for the tree.
     #[tactic(auto, using(crate::proofs::Measured::fits, crate::proofs::Measured::fits_not))]
     pub fn shape_within(&self, alloc: Global, typed: &'t Typed) -> Result<(), ResolveError>
-        ensures { Settles (λ u. u) result (passes (expanded self.now typed.now)) }
+        ensures { ResolvesTo (λ u. u) result (passes (expanded self.now typed.now)) }
     {
         match self.measured(alloc, &typed.shape)? {
             None => {
@@ -241,7 +241,7 @@ impl<'s, 't> Sizes<'s, 't> {
     #[tactic(auto, using(crate::proofs::Measured::many_fit, crate::proofs::Measured::many_fit_not))]
     fn array_within(&self, alloc: Global, typed: &'t Typed, count: u64) -> Result<(), ResolveError>
         requires { nat_eq count 1 ≡ false }
-        ensures { Settles (λ u. u) result (passes (allocated self.now typed.now count)) }
+        ensures { ResolvesTo (λ u. u) result (passes (allocated self.now typed.now count)) }
     {
         match self.measured(alloc, &typed.shape)? {
             None => {
@@ -261,7 +261,7 @@ impl<'s, 't> Sizes<'s, 't> {
         typed: &'t Typed,
         count: u64,
     ) -> Result<(), ResolveError>
-        ensures { Settles (λ u. u) result (passes (allocated self.now typed.now count)) }
+        ensures { ResolvesTo (λ u. u) result (passes (allocated self.now typed.now count)) }
     {
         if count == 1 {
             self.shape_within(alloc, typed)

@@ -1,6 +1,6 @@
 //! Shapes measured by what is known of type names.
 ghost use Rattle.std.specs.Prelude.{◌≡◌, IfOk};
-ghost use Rattle.ir_names.specs.Settled.{Settles, each};
+ghost use Rattle.ir_names.specs.Resolving.{ResolvesTo, each};
 ghost use Rattle.ir_names.specs.Keys.{key_of};
 ghost use Rattle.ir_names.specs.TypeNames.{place_of};
 ghost use Rattle.named_types.specs.Measures as measures;
@@ -21,7 +21,7 @@ pub struct Known {
 
 fn or_limit(line: u32, measure: Option<Measure>) -> Result<Measure, ResolveError>
     requires { IsSmallIf measure }
-    ensures given { Settles (λ m. m) result (or_limit line measure) }
+    ensures given { ResolvesTo (λ m. m) result (or_limit line measure) }
     ensures small { IfOk result (λ m. IsSmall m) }
 {
     match measure {
@@ -33,7 +33,7 @@ fn or_limit(line: u32, measure: Option<Measure>) -> Result<Measure, ResolveError
 /// What a name on a line stands for.
 fn known_as(line: u32, name_line: u32, known: Option<Known>) -> Result<Measure, ResolveError>
     requires { IsKnownSmall known }
-    ensures given { Settles (λ m. m) result (known_as line name_line known) }
+    ensures given { ResolvesTo (λ m. m) result (known_as line name_line known) }
     ensures small { IfOk result (λ m. IsSmall m) }
 {
     match known {
@@ -65,7 +65,7 @@ pub fn weigh<'t>(
     shape: &Shape,
 ) -> Result<Measure, ResolveError>
     requires { AreKnownSmall known.now }
-    ensures given { Settles (λ m. m) result (measures.weigh names.now known.now line shape.now) }
+    ensures given { ResolvesTo (λ m. m) result (measures.weigh names.now known.now line shape.now) }
     ensures small { IfOk result (λ m. IsSmall m) }
 {
     match shape.node() {
@@ -97,7 +97,7 @@ fn weigh_all<'t>(
     shapes: &[Shape],
 ) -> Result<Vec<Measure>, ResolveError>
     requires { AreKnownSmall known.now }
-    ensures given { Settles (λ v. v.items) result (each (measures.weigh names.now known.now line) shapes.now) }
+    ensures given { ResolvesTo (λ v. v.items) result (each (measures.weigh names.now known.now line) shapes.now) }
     ensures small { IfOk result (λ v. AreSmall v.items) }
 {
     let mut out = Vec::new(alloc);
@@ -116,7 +116,7 @@ fn weigh_name<'t>(
     name: &Name,
 ) -> Result<Measure, ResolveError>
     requires { AreKnownSmall known.now }
-    ensures given { Settles (λ m. m) result (known_as line name.now.line (known_at known.now (place_of names.now (key_of name.now)))) }
+    ensures given { ResolvesTo (λ m. m) result (known_as line name.now.line (known_at known.now (place_of names.now (key_of name.now)))) }
     ensures small { IfOk result (λ m. IsSmall m) }
 {
     let place = names.place_of_name(alloc, name)?;

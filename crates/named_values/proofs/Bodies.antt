@@ -1,7 +1,7 @@
 -- Bodies of blocks, a line at a time.
 use Rattle.std.proofs.Common.{◌≡◌, refl, sym, ap, ◌∙◌, ℕ, ◌+◌, ◌<◌, List, [], ◌∷◌, ◌++◌, Option, None, Some, Result, Ok, Err, append_assoc, length, drop, get_or}
 use Rattle.std.proofs.lemmas.List.{append-nil}
-use Rattle.ir_read.specs.declared.raw.Line as raw_line
+use Rattle.ir_read.specs.declared.raw.WrittenLine as raw_line
 use Rattle.ir_tree.specs.declared.instr.Instr.{Instr}
 use Rattle.ir_tree.specs.declared.instr.Line.{Line}
 use Rattle.ir_tree.specs.declared.instr.Phi.{Phi}
@@ -10,8 +10,8 @@ use Rattle.ir_names.specs.declared.fault.Fault.{Fault}
 use Rattle.ir_names.specs.Bodies.{instr_in, local_at, behind_line, lines_in}
 use Rattle.named_values.specs.Blocks.{as_phi, phis_of, rest_of, phi_before, lines_behind}
 use Rattle.named_values.specs.BodyLaws.{placed, placed_first, placed_in, followed, followed_in}
-use Rattle.ir_names.specs.Locals.{Known}
-use Rattle.ir_names.specs.Settled.{◌>>=◌}
+use Rattle.ir_names.specs.Locals.{LocalTable}
+use Rattle.ir_names.specs.Resolving.{◌>>=◌}
 use Rattle.ir_names.specs.Types.{Types}
 use Rattle.ir_names.proofs.Each.{here}
 
@@ -41,15 +41,15 @@ abbrev or_else : {A : Type 0} → A → Result A Fault → A
 or_else a (Ok b) = b
 or_else a (Err e) = a
 
-module _ (types : Types) (locals : Known) where
-  makes : (b : Body) (next : ℕ) (x : raw_line.Line) (xs : List raw_line.Line) (i : Instr) → instr_in types locals x.instr ≡ Ok i
+module _ (types : Types) (locals : LocalTable) where
+  makes : (b : Body) (next : ℕ) (x : raw_line.WrittenLine) (xs : List raw_line.WrittenLine) (i : Instr) → instr_in types locals x.instr ≡ Ok i
       → onto b (lines_in types locals next (x ∷ xs)) ≡ onto (placed b (record { local = local_at next x; instr = i })) (lines_in types locals (behind_line next x) xs)
   makes b next x xs i h =
       ap (λ (r : Result Instr Fault). onto b (r >>= λ j. lines_in types locals (behind_line next x) xs >>= λ more. Ok (record { local = local_at next x; instr = j } ∷ more))) h
       ∙ regroup b (record { local = local_at next x; instr = i }) (lines_in types locals (behind_line next x) xs)
 
   -- one more line is placed, and the others follow
-  pub goes_on : (b b2 : Body) (next next2 : ℕ) (lines : List raw_line.Line) (k : ℕ) (x : raw_line.Line) (i : Instr) (n : Option ℕ) → k < length lines → x ≡ get_or lines k x → instr_in types locals x.instr ≡ Ok i
+  pub goes_on : (b b2 : Body) (next next2 : ℕ) (lines : List raw_line.WrittenLine) (k : ℕ) (x : raw_line.WrittenLine) (i : Instr) (n : Option ℕ) → k < length lines → x ≡ get_or lines k x → instr_in types locals x.instr ≡ Ok i
       → n ≡ local_at next x → ok (placed b (record { local = n; instr = i })) ≡ ok b2 → ok (behind_line next x) ≡ ok next2
       → onto b (lines_in types locals next (drop k lines)) ≡ onto b2 (lines_in types locals next2 (drop (k + 1) lines))
   goes_on b b2 next next2 lines k x i n at is h named put behind =
@@ -59,7 +59,7 @@ module _ (types : Types) (locals : Known) where
       ∙ ap (λ m. onto b2 (lines_in types locals m (drop (k + 1) lines))) (ap (or_else next2) behind)
 
   -- so where the line is resolved as it is placed
-  pub continues : (b b2 : Body) (next next2 : ℕ) (lines : List raw_line.Line) (k : ℕ) (x : raw_line.Line) (r : Result Instr Fault) → k < length lines → x ≡ get_or lines k x → instr_in types locals x.instr ≡ r
+  pub continues : (b b2 : Body) (next next2 : ℕ) (lines : List raw_line.WrittenLine) (k : ℕ) (x : raw_line.WrittenLine) (r : Result Instr Fault) → k < length lines → x ≡ get_or lines k x → instr_in types locals x.instr ≡ r
       → (r >>= λ i. ok (placed b (record { local = local_at next x; instr = i }))) ≡ ok b2 → ok (behind_line next x) ≡ ok next2
       → onto b (lines_in types locals next (drop k lines)) ≡ onto b2 (lines_in types locals next2 (drop (k + 1) lines))
   continues b b2 next next2 lines k x (Ok i) at is h put behind = goes_on b b2 next next2 lines k x i (local_at next x) at is h refl put behind

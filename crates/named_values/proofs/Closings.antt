@@ -7,7 +7,7 @@ use Rattle.ir_tree.specs.declared.init_node.InitHead.TheVariants.{Plain, Zeros, 
 use Rattle.ir_tree.specs.declared.init_node.InitPart.{InitPart}
 use Rattle.ir_tree.specs.declared.init_node.InitPart.TheVariants.{Typed, End}
 use Rattle.ir_names.specs.declared.fault.Fault.{Fault}
-use Rattle.ir_names.specs.Settled.{◌>>=◌, each}
+use Rattle.ir_names.specs.Resolving.{◌>>=◌, each}
 use Rattle.ir_names.proofs.Each.{here}
 use Rattle.named_values.specs.declared.collected.Collected.{Collected}
 use Rattle.named_values.specs.Closing.{begun, depth_behind, closed, pushed, finished, tree_in}

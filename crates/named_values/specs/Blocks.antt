@@ -1,8 +1,8 @@
 -- Blocks and functions with each name resolved.
 use Rattle.std.specs.Prelude.{ℕ, ◌+◌, Bool, List, [], ◌∷◌, length, Option, None, Some, Result, Ok}
 use Rattle.ir_read.specs.declared.raw.Block as raw_block
-use Rattle.ir_read.specs.declared.raw.Head as raw_head
-use Rattle.ir_read.specs.declared.raw.Line as raw_line
+use Rattle.ir_read.specs.declared.raw.FunctionHeader as raw_head
+use Rattle.ir_read.specs.declared.raw.WrittenLine as raw_line
 use Rattle.ir_read.specs.declared.raw.Terminator as raw_end
 use Rattle.ir_read.specs.declared.raw.Param as raw_param
 use Rattle.ir_tree.specs.declared.block.Block.{Block}
@@ -15,9 +15,9 @@ use Rattle.ir_tree.specs.declared.instr.Phi.{Phi}
 use Rattle.named_values.specs.declared.block.Body.{Body}
 use Rattle.ir_names.specs.declared.fault.Fault.{Fault}
 use Rattle.ir_names.specs.Bodies.{lines_in, behind_lines, end_in}
-use Rattle.ir_names.specs.Locals.{Known}
+use Rattle.ir_names.specs.Locals.{LocalTable}
 use Rattle.ir_names.specs.Numbering.{locals_of}
-use Rattle.ir_names.specs.Settled.{◌>>=◌}
+use Rattle.ir_names.specs.Resolving.{◌>>=◌}
 use Rattle.ir_names.specs.Symbols.{symbol_of}
 use Rattle.ir_names.specs.Types.{Types}
 
@@ -49,21 +49,21 @@ rest_of (l ∷ ls) = lines_behind (as_phi l) (l ∷ ls) (rest_of ls)
 abbrev pub body_of : List Line → Body
 body_of ls = record { phis = phis_of ls; lines = rest_of ls }
 
-abbrev pub body_in : Types → Known → ℕ → List raw_line.Line → Result Body Fault
+abbrev pub body_in : Types → LocalTable → ℕ → List raw_line.WrittenLine → Result Body Fault
 body_in types locals next lines = lines_in types locals next lines >>= λ ls. Ok (body_of ls)
 
 -- a block under its number; its lines take the numbers behind it
-unfoldable pub block_of : Types → Known → ℕ → List raw_line.Line → raw_end.Terminator → Result Block Fault
+unfoldable pub block_of : Types → LocalTable → ℕ → List raw_line.WrittenLine → raw_end.Terminator → Result Block Fault
 block_of types locals number lines end =
     body_in types locals (number + 1) lines >>= λ body. end_in types locals end >>= λ e. Ok (record { number = number; phis = body.phis; lines = body.lines; end = e })
 
-abbrev pub block_in : Types → Known → ℕ → raw_block.Block → Result Block Fault
+abbrev pub block_in : Types → LocalTable → ℕ → raw_block.Block → Result Block Fault
 block_in types locals number b = block_of types locals number b.lines b.end
 
 abbrev pub behind_block : ℕ → raw_block.Block → ℕ
 behind_block number b = behind_lines (number + 1) b.lines
 
-abbrev pub blocks_in : Types → Known → ℕ → List raw_block.Block → Result (List Block) Fault
+abbrev pub blocks_in : Types → LocalTable → ℕ → List raw_block.Block → Result (List Block) Fault
 blocks_in types locals next [] = Ok []
 blocks_in types locals next (b ∷ bs) =
     block_in types locals next b >>= λ t. blocks_in types locals (behind_block next b) bs >>= λ ts. Ok (t ∷ ts)
@@ -77,7 +77,7 @@ abbrev pub blocks_of : Types → List raw_param.Param → List raw_block.Block �
 blocks_of types params blocks = locals_of params blocks >>= λ locals. blocks_in types locals (length params) blocks
 
 -- a function: parameters from 0 on, then each block followed by its results
-unfoldable pub function_in : Types → raw_head.Head → List raw_block.Block → Bool → Bool → Result Function Fault
+unfoldable pub function_in : Types → raw_head.FunctionHeader → List raw_block.Block → Bool → Bool → Result Function Fault
 function_in types head blocks noinline optnone =
     blocks_of types head.params blocks >>= λ bs.
     Ok (record { symbol = symbol_of head.name; linkage = head.linkage; result = head.result; params = params_from 0 head.params; noinline = noinline; optnone = optnone; blocks = bs })

@@ -6,10 +6,10 @@ use Rattle.named_values.specs.declared.block.Body.{Body}
 use Rattle.ir_names.specs.declared.fault.Fault.{Fault}
 use Rattle.named_values.specs.Blocks.{as_phi, phis_of, rest_of}
 use Rattle.ir_names.specs.Bodies.{instr_in, local_at}
-use Rattle.ir_names.specs.Locals.{Known}
-use Rattle.ir_names.specs.Settled.{◌>>=◌}
+use Rattle.ir_names.specs.Locals.{LocalTable}
+use Rattle.ir_names.specs.Resolving.{◌>>=◌}
 use Rattle.ir_names.specs.Types.{Types}
-use Rattle.ir_read.specs.declared.raw.Line as raw_line
+use Rattle.ir_read.specs.declared.raw.WrittenLine as raw_line
 
 abbrev pub placed_first : List Phi → Line → Option Phi → Body
 placed_first phis l None = record { phis = phis; lines = l ∷ [] }
@@ -31,5 +31,5 @@ abbrev pub followed : Body → List Line → Body
 followed b more = followed_in b.phis b.lines more
 
 -- a body with one more line, whose names are resolved
-abbrev pub line_onto : Types → Known → ℕ → raw_line.Line → Body → Result Body Fault
+abbrev pub line_onto : Types → LocalTable → ℕ → raw_line.WrittenLine → Body → Result Body Fault
 line_onto types locals number line b = instr_in types locals line.instr >>= λ i. Ok (placed b (record { local = local_at number line; instr = i }))

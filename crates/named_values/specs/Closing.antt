@@ -8,8 +8,8 @@ use Rattle.ir_tree.specs.declared.init_node.InitHead.TheVariants.{Plain, Zeros, 
 use Rattle.ir_tree.specs.declared.init_node.InitPart.{InitPart}
 use Rattle.ir_tree.specs.declared.init_node.InitPart.TheVariants.{Typed, End}
 use Rattle.ir_names.specs.declared.fault.Fault.{Fault}
-use Rattle.ir_names.specs.Locals.{Known}
-use Rattle.ir_names.specs.Settled.{◌>>=◌, each}
+use Rattle.ir_names.specs.Locals.{LocalTable}
+use Rattle.ir_names.specs.Resolving.{◌>>=◌, each}
 use Rattle.ir_names.specs.Types.{Types}
 use Rattle.ir_names.specs.Variables.{head_in, part_in}
 use Rattle.named_values.specs.declared.collected.Collected.{Collected}
@@ -45,5 +45,5 @@ abbrev pub tree_in : InitHead → Result (List InitPart) Fault → Result Initia
 tree_in root r = r >>= λ parts. Ok (tree_of (root, parts))
 
 -- the tree of an initialiser for this shape with these locals known
-abbrev pub initial_in : Types → Known → Form → raw_init.Init → Result Initial Fault
+abbrev pub initial_in : Types → LocalTable → Form → raw_init.Init → Result Initial Fault
 initial_in types locals f i = head_in types locals f i.root >>= λ root. tree_in root (each (part_in types locals) i.parts)

@@ -3,13 +3,13 @@ ghost use Rattle.std.specs.Prelude.{◌≡◌, ◌+◌, OnOk, Ok, IfOk};
 ghost use Rattle.ir_names.specs.Bodies.{local_at, behind_line, behind_lines};
 ghost use Rattle.named_values.specs.Blocks.{body_in, block_of};
 ghost use Rattle.named_values.specs.BodyLaws.{line_onto, placed};
-ghost use Rattle.ir_names.specs.Settled.{Settles};
+ghost use Rattle.ir_names.specs.Resolving.{ResolvesTo};
 
 use crate::instr::instr_in;
 use crate::numbering::is_defined;
 use crate::terminator::end_in;
 use ir_names::{Locals, ResolveError, Types};
-use ir_read::{Line as WrittenLine, Terminator as WrittenEnd};
+use ir_read::{Terminator as WrittenEnd, WrittenLine};
 use ir_tree::{Block, Instr, Line, Phi, Rows};
 use std::alloc::Global;
 
@@ -22,7 +22,7 @@ pub struct Body {
 
 /// The number behind this one.
 pub fn after(number: u32) -> Result<u32, ResolveError>
-    ensures { Settles (λ n. n) result (Ok (number + 1)) }
+    ensures { ResolvesTo (λ n. n) result (Ok (number + 1)) }
 {
     match number.checked_add(1) {
         Some(next) => Ok(next),
@@ -37,7 +37,7 @@ fn local_at(next: u32, line: &WrittenLine) -> Option<u32>
 }
 
 fn behind_line(next: u32, line: &WrittenLine) -> Result<u32, ResolveError>
-    ensures { Settles (λ n. n) result (Ok (behind_line next line.now)) }
+    ensures { ResolvesTo (λ n. n) result (Ok (behind_line next line.now)) }
 {
     if is_defined(line) {
         after(next)
@@ -48,7 +48,7 @@ fn behind_line(next: u32, line: &WrittenLine) -> Result<u32, ResolveError>
 
 /// One more line of a body.
 fn place(body: &mut Body, local: Option<u32>, instr: Instr) -> Result<(), ResolveError>
-    ensures { Settles (λ _. body.new) result (Ok (placed body.old (record { local = local; instr = instr }))) }
+    ensures { ResolvesTo (λ _. body.new) result (Ok (placed body.old (record { local = local; instr = instr }))) }
 {
     if body.lines.len() != 0 {
         body.lines.push(Line { local, instr })?;
@@ -79,7 +79,7 @@ fn line_into<'t>(
     line: &'t WrittenLine,
     body: &mut Body,
 ) -> Result<(), ResolveError>
-    ensures { Settles (λ _. body.new) result (line_onto types.now locals.now number line.now body.old) }
+    ensures { ResolvesTo (λ _. body.new) result (line_onto types.now locals.now number line.now body.old) }
 {
     let made = instr_in(alloc, types, locals, &line.instr)?;
     place(body, local_at(number, line), made)
@@ -93,7 +93,7 @@ pub fn body_in<'t>(
     first: u32,
     lines: &'t [WrittenLine],
 ) -> Result<Body, ResolveError>
-    ensures { Settles (λ b. b) result (body_in types.now locals.now first lines.now) }
+    ensures { ResolvesTo (λ b. b) result (body_in types.now locals.now first lines.now) }
 {
     let mut body = Body {
         phis: Rows::new(alloc),
@@ -109,7 +109,7 @@ pub fn body_in<'t>(
 
 /// The number behind these lines, the first of which takes this number, where it takes one.
 pub fn behind_lines(first: u32, lines: &[WrittenLine]) -> Result<u32, ResolveError>
-    ensures { Settles (λ n. n) result (Ok (behind_lines first lines.now)) }
+    ensures { ResolvesTo (λ n. n) result (Ok (behind_lines first lines.now)) }
 {
     let mut next = first;
     'each: for line in lines {
@@ -128,7 +128,7 @@ pub fn block_of<'t>(
     lines: &'t [WrittenLine],
     end: &'t WrittenEnd,
 ) -> Result<Block, ResolveError>
-    ensures { Settles (λ b. b) result (block_of types.now locals.now number lines.now end.now) }
+    ensures { ResolvesTo (λ b. b) result (block_of types.now locals.now number lines.now end.now) }
 {
     let first = after(number)?;
     let body = body_in(alloc, types, locals, first, lines)?;

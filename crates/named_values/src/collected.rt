@@ -6,7 +6,7 @@
 ghost use Rattle.std.specs.Prelude.{◌≡◌, ◌≤◌, ◌++◌, [], IfOk, OnOk, Ok, replicate};
 ghost use Rattle.ir_tree.specs.declared.init_node.InitPart.TheVariants as part_kinds;
 ghost use Rattle.named_values.specs.Closing.{begun, depth_behind, pushed, finished};
-ghost use Rattle.ir_names.specs.Settled.{Settles};
+ghost use Rattle.ir_names.specs.Resolving.{ResolvesTo};
 
 use crate::block::after;
 use ir_names::ResolveError;
@@ -22,7 +22,7 @@ pub struct Collected {
 
 /// How many aggregates are open behind a beginning.
 fn begun(depth: u32, head: &InitHead) -> Result<u32, ResolveError>
-    ensures { Settles (λ n. n) result (Ok (begun depth head.now)) }
+    ensures { ResolvesTo (λ n. n) result (Ok (begun depth head.now)) }
 {
     match head {
         InitHead::Plain(_) | InitHead::Zeros | InitHead::Bytes(_) => Ok(depth),
@@ -33,7 +33,7 @@ fn begun(depth: u32, head: &InitHead) -> Result<u32, ResolveError>
 /// How many aggregates are open behind a part, where some are before it.
 fn depth_behind(depth: u32, part: &InitPart) -> Result<u32, ResolveError>
     requires { 1 ≤ depth }
-    ensures { Settles (λ n. n) result (Ok (depth_behind depth part.now)) }
+    ensures { ResolvesTo (λ n. n) result (Ok (depth_behind depth part.now)) }
 {
     match part {
         InitPart::Typed { head, .. } => begun(depth, head),
@@ -43,7 +43,7 @@ fn depth_behind(depth: u32, part: &InitPart) -> Result<u32, ResolveError>
 
 /// No part behind the beginning of an initialiser.
 pub fn behind(alloc: Global, root: &InitHead) -> Result<Collected, ResolveError>
-    ensures { Settles (λ c. c) result (Ok (record { parts = []; depth = begun 0 root.now })) }
+    ensures { ResolvesTo (λ c. c) result (Ok (record { parts = []; depth = begun 0 root.now })) }
 {
     let depth = begun(0, root)?;
     Ok(Collected {
@@ -54,7 +54,7 @@ pub fn behind(alloc: Global, root: &InitHead) -> Result<Collected, ResolveError>
 
 /// One more part.
 pub fn push(collected: &mut Collected, part: InitPart) -> Result<(), ResolveError>
-    ensures { Settles (λ _. collected.new) result (Ok (pushed collected.old part)) }
+    ensures { ResolvesTo (λ _. collected.new) result (Ok (pushed collected.old part)) }
 {
     if collected.depth == 0 {
         return Ok(());

@@ -2,18 +2,18 @@
 ghost use Rattle.std.specs.Prelude.{◌≡◌, length, Ok};
 ghost use Rattle.named_values.specs.Blocks.{block_in, blocks_in, behind_block};
 ghost use Rattle.named_values.specs.Blocks as definitions;
-ghost use Rattle.ir_names.specs.Settled.{Settles};
+ghost use Rattle.ir_names.specs.Resolving.{ResolvesTo};
 
 use crate::block::{after, behind_lines, block_of};
 use crate::declaration::params_in;
 use crate::numbering::locals_of;
 use ir_names::{Locals, ResolveError, Types, symbol_of};
-use ir_read::{Block as WrittenBlock, Head, Line};
+use ir_read::{Block as WrittenBlock, FunctionHeader, WrittenLine};
 use ir_tree::{Block, Function, Rows};
 use std::alloc::Global;
 
 /// The lines of a block, without its terminator.
-pub fn lines_in(block: &WrittenBlock) -> &[Line]
+pub fn lines_in(block: &WrittenBlock) -> &[WrittenLine]
     ensures { result.now ≡ block.now.lines }
 {
     block.lines.as_slice()
@@ -21,7 +21,7 @@ pub fn lines_in(block: &WrittenBlock) -> &[Line]
 
 /// The number behind a block with this number.
 fn behind_block(number: u32, block: &WrittenBlock) -> Result<u32, ResolveError>
-    ensures { Settles (λ n. n) result (Ok (behind_block number block.now)) }
+    ensures { ResolvesTo (λ n. n) result (Ok (behind_block number block.now)) }
 {
     let first = after(number)?;
     behind_lines(first, block.lines.as_slice())
@@ -35,7 +35,7 @@ fn block_in<'t>(
     locals: &Locals<'t>,
     number: u32,
 ) -> Result<Block, ResolveError>
-    ensures { Settles (λ b. b) result (block_in types.now locals.now number block.now) }
+    ensures { ResolvesTo (λ b. b) result (block_in types.now locals.now number block.now) }
 {
     block_of(alloc, types, locals, number, lines_in(block), &block.end)
 }
@@ -48,7 +48,7 @@ pub fn blocks_in<'t>(
     locals: &Locals<'t>,
     first: u32,
 ) -> Result<Rows<Block>, ResolveError>
-    ensures { Settles (λ bs. bs) result (blocks_in types.now locals.now first blocks.now) }
+    ensures { ResolvesTo (λ bs. bs) result (blocks_in types.now locals.now first blocks.now) }
 {
     let mut out = Rows::new(alloc);
     let mut next = first;
@@ -61,8 +61,8 @@ pub fn blocks_in<'t>(
 }
 
 /// How many parameters there are, which is the number of the first block.
-fn first_block(head: &Head) -> Result<u32, ResolveError>
-    ensures { Settles (λ n. n) result (Ok (length head.now.params)) }
+fn first_block(head: &FunctionHeader) -> Result<u32, ResolveError>
+    ensures { ResolvesTo (λ n. n) result (Ok (length head.now.params)) }
 {
     match u32::try_from(head.params.len()) {
         Ok(first) => Ok(first),
@@ -75,9 +75,9 @@ fn blocks_of<'t>(
     blocks: &'t [WrittenBlock],
     alloc: Global,
     types: &Types<'t>,
-    head: &'t Head,
+    head: &'t FunctionHeader,
 ) -> Result<Rows<Block>, ResolveError>
-    ensures { Settles (λ bs. bs) result (definitions.blocks_of types.now head.now.params blocks.now) }
+    ensures { ResolvesTo (λ bs. bs) result (definitions.blocks_of types.now head.now.params blocks.now) }
 {
     let first = first_block(head)?;
     let locals = locals_of(alloc, head.params.as_slice(), blocks)?;
@@ -91,11 +91,11 @@ pub fn function_in<'t>(
     blocks: &'t [WrittenBlock],
     alloc: Global,
     types: &Types<'t>,
-    head: &'t Head,
+    head: &'t FunctionHeader,
     noinline: bool,
     optnone: bool,
 ) -> Result<Function, ResolveError>
-    ensures { Settles (λ f. f) result (definitions.function_in types.now head.now blocks.now noinline optnone) }
+    ensures { ResolvesTo (λ f. f) result (definitions.function_in types.now head.now blocks.now noinline optnone) }
 {
     let blocks = blocks_of(blocks, alloc, types, head)?;
     let symbol = symbol_of(alloc, &head.name)?;

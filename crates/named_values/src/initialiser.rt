@@ -1,7 +1,7 @@
 //! Initialisers with their names resolved (LangRef, "Constants").
 ghost use Rattle.std.specs.Prelude.{◌≡◌, None, if◌then◌else◌, IfOk};
 ghost use Rattle.ir_lex.specs.Quotes.{content};
-ghost use Rattle.ir_names.specs.Settled.{Settles, each};
+ghost use Rattle.ir_names.specs.Resolving.{ResolvesTo, each};
 ghost use Rattle.ir_names.specs.Variables.{constant_type, constant_for, number_for, head_in, part_in};
 ghost use Rattle.ir_names.specs.Types.{is_width};
 ghost use Rattle.ir_read.specs.Literals.{literal};
@@ -18,7 +18,7 @@ use std::alloc::{AllocError, Global};
 
 /// The bytes that a string writes.
 fn bytes_of(alloc: Global, string: &Name) -> Result<Text, AllocError>
-    ensures { IfOk result (λ text. text ≡ content string.now.kind string.now.text) }
+    ensures { IfOk result (λ text. text ≡ content string.now.form string.now.text) }
 {
     let content = string.token().content(alloc)?;
     Text::copied(alloc, content.as_slice())
@@ -84,7 +84,7 @@ fn head_in<'t>(
     shape: &Shape,
     head: &'t WrittenHead,
 ) -> Result<InitHead, ResolveError>
-    ensures { Settles (λ h. h) result (head_in types.now locals.now shape.now head.now) }
+    ensures { ResolvesTo (λ h. h) result (head_in types.now locals.now shape.now head.now) }
 {
     match head {
         WrittenHead::Plain(operand) => {
@@ -109,7 +109,7 @@ fn part_in<'t>(
     locals: &Locals<'t>,
     part: &'t WrittenPart,
 ) -> Result<InitPart, ResolveError>
-    ensures { Settles (λ p. p) result (part_in types.now locals.now part.now) }
+    ensures { ResolvesTo (λ p. p) result (part_in types.now locals.now part.now) }
 {
     match part {
         WrittenPart::Typed { typed, head } => {
@@ -130,7 +130,7 @@ fn parts_in<'t>(
     root: &InitHead,
     parts: &'t [WrittenPart],
 ) -> Result<Rows<InitPart>, ResolveError>
-    ensures tree { Settles (λ ps. tree_of (root.now, ps)) result (tree_in root.now (each (part_in types.now locals.now) parts.now)) }
+    ensures tree { ResolvesTo (λ ps. tree_of (root.now, ps)) result (tree_in root.now (each (part_in types.now locals.now) parts.now)) }
     ensures flat { IfOk result (λ ps. IsFlat root.now ps) }
 {
     let mut collected = behind(alloc, root)?;
@@ -151,7 +151,7 @@ fn initial_in<'t>(
     shape: &Shape,
     init: &'t Written,
 ) -> Result<Init, ResolveError>
-    ensures { Settles (λ v. v) result (initial_in types.now locals.now shape.now init.now) }
+    ensures { ResolvesTo (λ v. v) result (initial_in types.now locals.now shape.now init.now) }
 {
     let root = head_in(alloc, types, locals, shape, &init.root)?;
     let parts = parts_in(alloc, types, locals, &root, init.parts.as_slice())?;
@@ -165,7 +165,7 @@ pub fn init_in<'t>(
     shape: &Shape,
     init: &'t Written,
 ) -> Result<Init, ResolveError>
-    ensures { Settles (λ v. v) result (definitions.init_in types.now shape.now init.now) }
+    ensures { ResolvesTo (λ v. v) result (definitions.init_in types.now shape.now init.now) }
 {
     let locals = Locals::new(alloc);
     initial_in(alloc, types, &locals, shape, init)

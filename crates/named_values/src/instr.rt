@@ -2,7 +2,7 @@
 ghost use Rattle.std.specs.Prelude.{◌≡◌};
 ghost use Rattle.ir_names.specs.Bodies.{instr_in, reg_align};
 ghost use Rattle.ir_read.specs.declared.raw.Instr.TheVariants as written;
-ghost use Rattle.ir_names.specs.Settled.{Settles};
+ghost use Rattle.ir_names.specs.Resolving.{ResolvesTo};
 
 use crate::operand::{argument_in, arguments_in, entries_in, operand_in};
 use ir_names::{Locals, ResolveError, Types, align_or, allocated, expanded};
@@ -30,7 +30,7 @@ fn binary_in<'t>(
     left: &'t Operand,
     right: &'t Operand,
 ) -> Result<Instr, ResolveError>
-    ensures { Settles (λ i. i) result (instr_in types.now locals.now (written.Binary op flags width left.now right.now)) }
+    ensures { ResolvesTo (λ i. i) result (instr_in types.now locals.now (written.Binary op flags width left.now right.now)) }
 {
     let left = operand_in(alloc, types, locals, left)?;
     let right = operand_in(alloc, types, locals, right)?;
@@ -52,7 +52,7 @@ fn icmp_in<'t>(
     left: &'t Operand,
     right: &'t Operand,
 ) -> Result<Instr, ResolveError>
-    ensures { Settles (λ i. i) result (instr_in types.now locals.now (written.Icmp predicate reg left.now right.now)) }
+    ensures { ResolvesTo (λ i. i) result (instr_in types.now locals.now (written.Icmp predicate reg left.now right.now)) }
 {
     let left = operand_in(alloc, types, locals, left)?;
     let right = operand_in(alloc, types, locals, right)?;
@@ -72,7 +72,7 @@ fn select_in<'t>(
     if_true: &'t Argument,
     if_false: &'t Argument,
 ) -> Result<Instr, ResolveError>
-    ensures { Settles (λ i. i) result (instr_in types.now locals.now (written.Select condition.now if_true.now if_false.now)) }
+    ensures { ResolvesTo (λ i. i) result (instr_in types.now locals.now (written.Select condition.now if_true.now if_false.now)) }
 {
     let condition = operand_in(alloc, types, locals, condition)?;
     let if_true = argument_in(alloc, types, locals, if_true)?;
@@ -92,7 +92,7 @@ fn alloca_in<'t>(
     count: u64,
     align: Option<u64>,
 ) -> Result<Instr, ResolveError>
-    ensures { Settles (λ i. i) result (instr_in types.now locals.now (written.Alloca typed.now count align)) }
+    ensures { ResolvesTo (λ i. i) result (instr_in types.now locals.now (written.Alloca typed.now count align)) }
 {
     let shape = allocated(alloc, types, typed, count)?;
     let align = align_or(align_of(&shape), align);
@@ -107,7 +107,7 @@ fn load_in<'t>(
     address: &'t Operand,
     align: Option<u64>,
 ) -> Result<Instr, ResolveError>
-    ensures { Settles (λ i. i) result (instr_in types.now locals.now (written.Load reg address.now align)) }
+    ensures { ResolvesTo (λ i. i) result (instr_in types.now locals.now (written.Load reg address.now align)) }
 {
     let address = operand_in(alloc, types, locals, address)?;
     let align = align_or(reg_align(reg), align);
@@ -127,7 +127,7 @@ fn store_in<'t>(
     address: &'t Operand,
     align: Option<u64>,
 ) -> Result<Instr, ResolveError>
-    ensures { Settles (λ i. i) result (instr_in types.now locals.now (written.Store reg value.now address.now align)) }
+    ensures { ResolvesTo (λ i. i) result (instr_in types.now locals.now (written.Store reg value.now address.now align)) }
 {
     let value = operand_in(alloc, types, locals, value)?;
     let address = operand_in(alloc, types, locals, address)?;
@@ -149,7 +149,7 @@ fn address_in<'t>(
     base: &'t Operand,
     indices: &'t Rows<Argument>,
 ) -> Result<Instr, ResolveError>
-    ensures { Settles (λ i. i) result (instr_in types.now locals.now (written.Address inbounds typed.now base.now indices.now)) }
+    ensures { ResolvesTo (λ i. i) result (instr_in types.now locals.now (written.Address inbounds typed.now base.now indices.now)) }
 {
     let shape = expanded(alloc, types, typed)?;
     let base = operand_in(alloc, types, locals, base)?;
@@ -170,7 +170,7 @@ fn call_in<'t>(
     callee: &'t Operand,
     arguments: &'t Rows<Argument>,
 ) -> Result<Instr, ResolveError>
-    ensures { Settles (λ i. i) result (instr_in types.now locals.now (written.Call result_type callee.now arguments.now)) }
+    ensures { ResolvesTo (λ i. i) result (instr_in types.now locals.now (written.Call result_type callee.now arguments.now)) }
 {
     let callee = operand_in(alloc, types, locals, callee)?;
     let arguments = arguments_in(alloc, types, locals, arguments.as_slice())?;
@@ -190,7 +190,7 @@ fn cast_in<'t>(
     value: &'t Operand,
     to: Reg,
 ) -> Result<Instr, ResolveError>
-    ensures { Settles (λ i. i) result (instr_in types.now locals.now (written.Cast op from value.now to)) }
+    ensures { ResolvesTo (λ i. i) result (instr_in types.now locals.now (written.Cast op from value.now to)) }
 {
     let value = operand_in(alloc, types, locals, value)?;
     Ok(Instr::Cast {
@@ -208,7 +208,7 @@ fn freeze_in<'t>(
     reg: Reg,
     value: &'t Operand,
 ) -> Result<Instr, ResolveError>
-    ensures { Settles (λ i. i) result (instr_in types.now locals.now (written.Freeze reg value.now)) }
+    ensures { ResolvesTo (λ i. i) result (instr_in types.now locals.now (written.Freeze reg value.now)) }
 {
     let value = operand_in(alloc, types, locals, value)?;
     Ok(Instr::Freeze { reg, value })
@@ -221,7 +221,7 @@ fn phi_in<'t>(
     reg: Reg,
     incoming: &'t Rows<Incoming>,
 ) -> Result<Instr, ResolveError>
-    ensures { Settles (λ i. i) result (instr_in types.now locals.now (written.Phi reg incoming.now)) }
+    ensures { ResolvesTo (λ i. i) result (instr_in types.now locals.now (written.Phi reg incoming.now)) }
 {
     let incoming = entries_in(alloc, types, locals, incoming.as_slice())?;
     Ok(Instr::Phi { reg, incoming })
@@ -234,7 +234,7 @@ pub fn instr_in<'t>(
     locals: &Locals<'t>,
     instr: &'t Written,
 ) -> Result<Instr, ResolveError>
-    ensures { Settles (λ i. i) result (instr_in types.now locals.now instr.now) }
+    ensures { ResolvesTo (λ i. i) result (instr_in types.now locals.now instr.now) }
 {
     match instr {
         Written::Binary {

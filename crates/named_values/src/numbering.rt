@@ -2,10 +2,10 @@
 ghost use Rattle.std.specs.Prelude.{◌≡◌, [], Ok, Some, None};
 ghost use Rattle.ir_names.specs.Numbering.{has_result, is_defined, with_params, with_line, with_lines, with_block, with_blocks, locals_of};
 ghost use Rattle.ir_names.specs.Numbering as numbering;
-ghost use Rattle.ir_names.specs.Settled.{Settles};
+ghost use Rattle.ir_names.specs.Resolving.{ResolvesTo};
 
 use ir_names::{Locals, ResolveError, Sort};
-use ir_read::{Block, Instr, Line, Param};
+use ir_read::{Block, Instr, Param, WrittenLine};
 use std::alloc::Global;
 
 /// Whether an instruction has a result, which takes a number where it has no name.
@@ -20,7 +20,7 @@ pub fn has_result(instr: &Instr) -> bool
 }
 
 /// Whether a line defines a local.
-pub fn is_defined(line: &Line) -> bool
+pub fn is_defined(line: &WrittenLine) -> bool
     ensures { result ≡ is_defined line.now }
 {
     line.name.is_some() || has_result(&line.instr)
@@ -31,7 +31,7 @@ fn with_params<'t>(
     locals: &mut Locals<'t>,
     params: &'t [Param],
 ) -> Result<(), ResolveError>
-    ensures { Settles (λ _. locals.new) result (with_params locals.old params.now) }
+    ensures { ResolvesTo (λ _. locals.new) result (with_params locals.old params.now) }
 {
     'each: for param in params {
         locals.define(alloc, param.name.as_ref(), Sort::Value)?;
@@ -39,8 +39,12 @@ fn with_params<'t>(
     Ok(())
 }
 
-fn with_line<'t>(alloc: Global, locals: &mut Locals<'t>, line: &'t Line) -> Result<(), ResolveError>
-    ensures { Settles (λ _. locals.new) result (with_line locals.old line.now) }
+fn with_line<'t>(
+    alloc: Global,
+    locals: &mut Locals<'t>,
+    line: &'t WrittenLine,
+) -> Result<(), ResolveError>
+    ensures { ResolvesTo (λ _. locals.new) result (with_line locals.old line.now) }
 {
     if is_defined(line) {
         locals.define(alloc, line.name.as_ref(), Sort::Value)
@@ -52,9 +56,9 @@ fn with_line<'t>(alloc: Global, locals: &mut Locals<'t>, line: &'t Line) -> Resu
 fn with_lines<'t>(
     alloc: Global,
     locals: &mut Locals<'t>,
-    lines: &'t [Line],
+    lines: &'t [WrittenLine],
 ) -> Result<(), ResolveError>
-    ensures { Settles (λ _. locals.new) result (with_lines locals.old lines.now) }
+    ensures { ResolvesTo (λ _. locals.new) result (with_lines locals.old lines.now) }
 {
     'each: for line in lines {
         with_line(alloc, locals, line)?;
@@ -68,7 +72,7 @@ fn with_block<'t>(
     locals: &mut Locals<'t>,
     block: &'t Block,
 ) -> Result<(), ResolveError>
-    ensures { Settles (λ _. locals.new) result (with_block locals.old block.now) }
+    ensures { ResolvesTo (λ _. locals.new) result (with_block locals.old block.now) }
 {
     locals.define(alloc, block.label.as_ref(), Sort::Block)?;
     with_lines(alloc, locals, block.lines.as_slice())
@@ -79,7 +83,7 @@ fn with_blocks<'t>(
     locals: &mut Locals<'t>,
     blocks: &'t [Block],
 ) -> Result<(), ResolveError>
-    ensures { Settles (λ _. locals.new) result (with_blocks locals.old blocks.now) }
+    ensures { ResolvesTo (λ _. locals.new) result (with_blocks locals.old blocks.now) }
 {
     'each: for block in blocks {
         with_block(alloc, locals, block)?;
@@ -90,7 +94,7 @@ fn with_blocks<'t>(
 /// The definitions of a declaration: its parameters.
 #[tactic(auto, unfolding(ir_names::specs::Numbering::locals_of))]
 pub fn params_of<'t>(alloc: Global, params: &'t [Param]) -> Result<Locals<'t>, ResolveError>
-    ensures { Settles (λ k. k) result (numbering.locals_of params.now []) }
+    ensures { ResolvesTo (λ k. k) result (numbering.locals_of params.now []) }
 {
     let mut locals = Locals::new(alloc);
     with_params(alloc, &mut locals, params)?;
@@ -104,7 +108,7 @@ pub fn locals_of<'t>(
     params: &'t [Param],
     blocks: &'t [Block],
 ) -> Result<Locals<'t>, ResolveError>
-    ensures { Settles (λ k. k) result (numbering.locals_of params.now blocks.now) }
+    ensures { ResolvesTo (λ k. k) result (numbering.locals_of params.now blocks.now) }
 {
     let mut locals = Locals::new(alloc);
     with_params(alloc, &mut locals, params)?;

@@ -1,7 +1,7 @@
 //! Operands with their names resolved (LangRef, "Identifiers" and "Constants").
 ghost use Rattle.std.specs.Prelude.{◌≡◌};
 ghost use Rattle.ir_names.specs.Bodies.{operand_in, argument_in, incoming_in};
-ghost use Rattle.ir_names.specs.Settled.{Settles, each};
+ghost use Rattle.ir_names.specs.Resolving.{ResolvesTo, each};
 
 use ir_names::{Locals, ResolveError, Sort, Types, address_offset, symbol_of};
 use ir_read::{Argument as Written, Incoming as WrittenIncoming, Operand as WrittenOperand};
@@ -15,7 +15,7 @@ pub fn operand_in<'t>(
     locals: &Locals<'t>,
     operand: &'t WrittenOperand,
 ) -> Result<Operand, ResolveError>
-    ensures { Settles (λ o. o) result (operand_in types.now locals.now operand.now) }
+    ensures { ResolvesTo (λ o. o) result (operand_in types.now locals.now operand.now) }
 {
     match operand {
         WrittenOperand::Local(name) => {
@@ -48,7 +48,7 @@ pub fn argument_in<'t>(
     locals: &Locals<'t>,
     argument: &'t Written,
 ) -> Result<Argument, ResolveError>
-    ensures { Settles (λ a. a) result (argument_in types.now locals.now argument.now) }
+    ensures { ResolvesTo (λ a. a) result (argument_in types.now locals.now argument.now) }
 {
     let operand = operand_in(alloc, types, locals, &argument.operand)?;
     Ok(Argument {
@@ -64,7 +64,7 @@ pub fn arguments_in<'t>(
     locals: &Locals<'t>,
     arguments: &'t [Written],
 ) -> Result<Rows<Argument>, ResolveError>
-    ensures { Settles (λ v. v) result (each (argument_in types.now locals.now) arguments.now) }
+    ensures { ResolvesTo (λ v. v) result (each (argument_in types.now locals.now) arguments.now) }
 {
     let mut out = Rows::new(alloc);
     'each: for argument in arguments {
@@ -81,7 +81,7 @@ fn incoming_in<'t>(
     locals: &Locals<'t>,
     incoming: &'t WrittenIncoming,
 ) -> Result<Incoming, ResolveError>
-    ensures { Settles (λ i. i) result (incoming_in types.now locals.now incoming.now) }
+    ensures { ResolvesTo (λ i. i) result (incoming_in types.now locals.now incoming.now) }
 {
     let value = operand_in(alloc, types, locals, &incoming.value)?;
     let from = locals.number_of(alloc, &incoming.from, Sort::Block)?;
@@ -95,7 +95,7 @@ pub fn entries_in<'t>(
     locals: &Locals<'t>,
     entries: &'t [WrittenIncoming],
 ) -> Result<Rows<Incoming>, ResolveError>
-    ensures { Settles (λ v. v) result (each (incoming_in types.now locals.now) entries.now) }
+    ensures { ResolvesTo (λ v. v) result (each (incoming_in types.now locals.now) entries.now) }
 {
     let mut out = Rows::new(alloc);
     'each: for entry in entries {

@@ -2,7 +2,7 @@
 ghost use Rattle.std.specs.Prelude.{◌≡◌, Some};
 ghost use Rattle.ir_read.specs.declared.raw.Terminator.TheVariants as written;
 ghost use Rattle.ir_names.specs.Bodies.{end_in, case_in};
-ghost use Rattle.ir_names.specs.Settled.{Settles, each};
+ghost use Rattle.ir_names.specs.Resolving.{ResolvesTo, each};
 
 use crate::operand::{argument_in, operand_in};
 use ir_names::{Locals, ResolveError, Sort, Types};
@@ -11,7 +11,7 @@ use ir_tree::{Case, Rows, Terminator};
 use std::alloc::Global;
 
 fn case_in(alloc: Global, locals: &Locals, case: &WrittenCase) -> Result<Case, ResolveError>
-    ensures { Settles (λ c. c) result (case_in locals.now case.now) }
+    ensures { ResolvesTo (λ c. c) result (case_in locals.now case.now) }
 {
     let target = locals.number_of(alloc, &case.target, Sort::Block)?;
     Ok(Case {
@@ -27,7 +27,7 @@ fn cases_in(
     locals: &Locals,
     cases: &[WrittenCase],
 ) -> Result<Rows<Case>, ResolveError>
-    ensures { Settles (λ v. v) result (each (case_in locals.now) cases.now) }
+    ensures { ResolvesTo (λ v. v) result (each (case_in locals.now) cases.now) }
 {
     let mut out = Rows::new(alloc);
     'each: for case in cases {
@@ -43,7 +43,7 @@ fn return_in<'t>(
     locals: &Locals<'t>,
     value: &'t Argument,
 ) -> Result<Terminator, ResolveError>
-    ensures { Settles (λ e. e) result (end_in types.now locals.now (written.Return (Some value.now))) }
+    ensures { ResolvesTo (λ e. e) result (end_in types.now locals.now (written.Return (Some value.now))) }
 {
     let value = argument_in(alloc, types, locals, value)?;
     Ok(Terminator::Return(Some(value)))
@@ -57,7 +57,7 @@ fn branch_in<'t>(
     if_true: &Name,
     if_false: &Name,
 ) -> Result<Terminator, ResolveError>
-    ensures { Settles (λ e. e) result (end_in types.now locals.now (written.Branch condition.now if_true.now if_false.now)) }
+    ensures { ResolvesTo (λ e. e) result (end_in types.now locals.now (written.Branch condition.now if_true.now if_false.now)) }
 {
     let condition = operand_in(alloc, types, locals, condition)?;
     let if_true = locals.number_of(alloc, if_true, Sort::Block)?;
@@ -78,7 +78,7 @@ fn switch_in<'t>(
     default: &Name,
     cases: &'t Rows<WrittenCase>,
 ) -> Result<Terminator, ResolveError>
-    ensures { Settles (λ e. e) result (end_in types.now locals.now (written.Switch width value.now default.now cases.now)) }
+    ensures { ResolvesTo (λ e. e) result (end_in types.now locals.now (written.Switch width value.now default.now cases.now)) }
 {
     let value = operand_in(alloc, types, locals, value)?;
     let default = locals.number_of(alloc, default, Sort::Block)?;
@@ -98,7 +98,7 @@ pub fn end_in<'t>(
     locals: &Locals<'t>,
     end: &'t Written,
 ) -> Result<Terminator, ResolveError>
-    ensures { Settles (λ e. e) result (end_in types.now locals.now end.now) }
+    ensures { ResolvesTo (λ e. e) result (end_in types.now locals.now end.now) }
 {
     match end {
         Written::Return(None) => Ok(Terminator::Return(None)),

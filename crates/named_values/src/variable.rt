@@ -1,6 +1,6 @@
 //! Global variables with their names resolved (LangRef, "Global Variables").
 ghost use Rattle.std.specs.Prelude.{◌≡◌};
-ghost use Rattle.ir_names.specs.Settled.{Settles};
+ghost use Rattle.ir_names.specs.Resolving.{ResolvesTo};
 ghost use Rattle.ir_names.specs.Variables.{init_if};
 ghost use Rattle.ir_names.specs.Variables as definitions;
 
@@ -17,7 +17,7 @@ fn init_if<'t>(
     shape: &Shape,
     init: &'t Option<WrittenInit>,
 ) -> Result<Option<Init>, ResolveError>
-    ensures { Settles (λ i. i) result (init_if types.now shape.now init.now) }
+    ensures { ResolvesTo (λ i. i) result (init_if types.now shape.now init.now) }
 {
     match init {
         None => Ok(None),
@@ -35,7 +35,7 @@ pub fn variable_in<'t>(
     types: &Types<'t>,
     variable: &'t Written,
 ) -> Result<Variable, ResolveError>
-    ensures { Settles (λ v. v) result (definitions.variable_in types.now variable.now) }
+    ensures { ResolvesTo (λ v. v) result (definitions.variable_in types.now variable.now) }
 {
     let shape = expanded(alloc, types, &variable.typed)?;
     let init = init_if(alloc, types, &shape, &variable.init)?;

@@ -1,7 +1,7 @@
 //! Streams in memory.
 ghost use Rattle.std.specs.Prelude.{◌≡◌, ◌≤◌, [], ◌∷◌, Some, OnOk, OnErr, IsTrue, IsErr, is_err};
 ghost use Rattle.std.specs.Io.KnownBytes.{Keeps, Appends};
-ghost use Rattle.lto_outside.specs.Bytes.{Gives};
+ghost use Rattle.lto_outside.specs.Bytes.{Yields};
 ghost use Rattle.lto_outside.specs.Cause.{Rose};
 ghost use Rattle.outside_memory.specs.Bytes.{in_left, in_calls, in_failing, out_sent, out_calls, out_failing};
 ghost use Rattle.outside_memory.specs.Calls.{no_calls, counted};
@@ -60,7 +60,7 @@ impl ByteIn for MemoryIn {
     ghost faults = { λ m. (in_calls m).failed };
 
     fn next(&mut self) -> Result<Option<u8>, Fault>
-        ensures byte { Gives (Some (in_left self.old)) (Some (in_left self.new)) result }
+        ensures byte { Yields (Some (in_left self.old)) (Some (in_left self.new)) result }
         ensures later { (in_calls self.old).failed ≤ (in_calls self.new).failed }
         ensures cause { OnErr result (Rose (in_calls self.old).failed (in_calls self.new).failed) }
         ensures fails { is_err result ≡ is_listed (in_failing self.old) (in_calls self.old).made }

@@ -2,7 +2,7 @@
 ghost use Rattle.std.specs.Prelude.{◌≡◌, ℕ, ◌^◌, ◌<◌, ◌++◌, List, length, All};
 ghost use Rattle.cache_slot.specs.Places.{IsOut};
 
-use cache_slot::{Logged, Place, TicketLock};
+use cache_slot::{Logged, TicketLock, TurnHandle};
 use std::alloc::Global;
 use std::sync::Wait;
 use std::test::Fail;
@@ -31,7 +31,7 @@ impl Log {
     }
 }
 
-fn take_turns<W: Wait>(rt: &W, lock: &TicketLock<Log, u64>, place: &mut Place<Log, u64>)
+fn take_turns<W: Wait>(rt: &W, lock: &TicketLock<Log, u64>, place: &mut TurnHandle<Log, u64>)
     requires { IsOut lock.now.table.shared.table_id place.old.seat }
     ensures { IsOut lock.now.table.shared.table_id place.new.seat }
 {
@@ -45,7 +45,7 @@ fn take_turns<W: Wait>(rt: &W, lock: &TicketLock<Log, u64>, place: &mut Place<Lo
 fn take_turns_in_threads<R: Threads + Wait + Sync>(
     rt: &R,
     lock: &TicketLock<Log, u64>,
-    places: &mut [Place<Log, u64>],
+    places: &mut [TurnHandle<Log, u64>],
 )
     requires { All (λ p. IsOut lock.now.table.shared.table_id p.seat) places.old }
 {

@@ -3,12 +3,12 @@ use Rattle.std.proofs.Common.{◌≡◌, ℕ, zero, suc, ◌^◌, ◌<◌, ◌�
 use Rattle.std.specs.List.{fold}
 use Rattle.ir_globals.specs.Variables as read
 use Rattle.ir_globals.specs.Variables.{further, with_align, tail}
-use Rattle.ir_lex.specs.Heads.{number, head_of}
+use Rattle.ir_lex.specs.TokenKinds.{number, kind_of}
 use Rattle.ir_lex.specs.Pieces.{Piece}
 use Rattle.ir_lex.specs.Rows.{begins}
-use Rattle.ir_lex.specs.declared.head.Head.{Head}
-use Rattle.ir_lex.specs.declared.head.Head.TheVariants as heads
-use Rattle.ir_lex.specs.declared.token.Kind.TheVariants as kinds
+use Rattle.ir_lex.specs.declared.token_kind.TokenKind.{TokenKind}
+use Rattle.ir_lex.specs.declared.token_kind.TokenKind.TheVariants as kinds
+use Rattle.ir_lex.specs.declared.token.TokenForm.TheVariants as forms
 use Rattle.ir_print.specs.Instructions.{aligned}
 use Rattle.ir_print.specs.Tokens.{space, natural}
 use Rattle.ir_read.specs.Classes.{refusal}
@@ -19,7 +19,7 @@ use Rattle.ir_read.specs.Alphabet.{contains}
 use Rattle.ir_read.specs.declared.fault.TokenFault.{TokenFault}
 use Rattle.ir_read.specs.declared.fault.TokenFault.TheVariants as faults
 use Rattle.ir_read.specs.Forms.{Star, token}
-use Rattle.read_again.specs.Reads.{Reads}
+use Rattle.read_again.specs.Reads.{Parses}
 use Rattle.read_again.proofs.Composed.{then, last, nothing, left, right, no_more, one_more}
 use Rattle.read_again.proofs.Numerals.{decimal_again, decimal_nonempty, no_minus}
 use Rattle.read_again.proofs.Tokens.{piece_read}
@@ -78,20 +78,20 @@ alignment_again n a =
     by_tests true true p q = absurd cc
     by_tests false b p q = absurd cc
 
-pub alignment_read : (n : ℕ) → IsAlignment n → Reads (token is_alignment) (λ m. m ≡ n) (natural space n)
-unfolding is_alignment head_of
-alignment_read n a = piece_read space kinds.Number (decimal n) (decimal_nonempty n) (λ t i. (n, ap (λ (h : Head). cond (nat_eq (number h) (number heads.Number)) (alignment_of t.text) (Err (refusal (number h)))) i.head ∙ ap alignment_of i.text ∙ alignment_again n a, refl))
+pub alignment_read : (n : ℕ) → IsAlignment n → Parses (token is_alignment) (λ m. m ≡ n) (natural space n)
+unfolding is_alignment kind_of
+alignment_read n a = piece_read space forms.Number (decimal n) (decimal_nonempty n) (λ t i. (n, ap (λ (h : TokenKind). cond (nat_eq (number h) (number kinds.Number)) (alignment_of t.text) (Err (refusal (number h)))) i.kind ∙ ap alignment_of i.text ∙ alignment_again n a, refl))
 
 -- ---- behind a variable
 
-further_read : (n : ℕ) → IsAlignment n → Reads further (λ a. a ≡ Some n) (aligned n)
+further_read : (n : ℕ) → IsAlignment n → Parses further (λ a. a ≡ Some n) (aligned n)
 unfolding further read.aligned
 further_read n h = then comma_read (λ a u. right _ (left _ (then (align_read space) (λ b v. last (alignment_read n h) (λ m e. nothing (ap Some e))))))
 
-pub tail_read : (n : ℕ) → IsAlignment n → Reads tail (λ a. a ≡ Some n) (aligned n)
+pub tail_read : (n : ℕ) → IsAlignment n → Parses tail (λ a. a ≡ Some n) (aligned n)
 unfolding tail
 tail_read n h = last one (λ all e. nothing (ap (fold with_align _) e))
   where
-    one : Reads (Star further) (λ all. all ≡ Some n ∷ []) (aligned n)
-    one = subst (λ (qs : List Piece). Reads (Star further) (λ all. all ≡ Some n ∷ []) qs) (append-nil (aligned n))
+    one : Parses (Star further) (λ all. all ≡ Some n ∷ []) (aligned n)
+    one = subst (λ (qs : List Piece). Parses (Star further) (λ all. all ≡ Some n ∷ []) qs) (append-nil (aligned n))
         (one_more (further_read n h) (no_more {P = λ more. more ≡ []} refl) (λ a more e f. ap (λ (x : Option ℕ). x ∷ more) e ∙ ap (λ (xs : List (Option ℕ)). Some n ∷ xs) f))

@@ -1,7 +1,7 @@
 -- Results that are known, one behind another.
 use Rattle.std.proofs.Common.{◌≡◌, Result, Ok, List, [], ◌∷◌, refl, ap, ◌∙◌}
 use Rattle.std.specs.List.{AllByRecursion as Each}
-use Rattle.ir_names.specs.Settled.{◌>>=◌, each}
+use Rattle.ir_names.specs.Resolving.{◌>>=◌, each}
 use Rattle.read_again.specs.PartsPrinted.{Paired}
 
 pub bound : {A B E : Type 0} {r : Result A E} {x : A} {s : Result B E} (f : A → Result B E) → r ≡ Ok x → f x ≡ s → r >>= f ≡ s

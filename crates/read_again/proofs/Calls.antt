@@ -2,11 +2,11 @@
 use Rattle.std.proofs.Common.{◌≡◌, ℕ, Bool, true, false, cond, Option, Some, None, Ok, Err, List, [], ◌∷◌, ◌++◌, refl, ap, inl, inr, ◌⊎◌}
 use Rattle.std.specs.List.{AllByRecursion as Each}
 use Rattle.ir_bodies.specs.Calls.{conventions, types, argument_behind, argument, further_argument, some_arguments, any_arguments, called_value, marker_refusal, unmarked_value, callee, called, calling}
-use Rattle.ir_lex.specs.Heads.{number, head_of, mark_head}
+use Rattle.ir_lex.specs.TokenKinds.{number, kind_of, mark_kind}
 use Rattle.ir_lex.specs.Pieces.{Piece}
 use Rattle.ir_lex.specs.Tok.{Tok}
-use Rattle.ir_lex.specs.declared.head.Head.TheVariants as heads
-use Rattle.ir_lex.specs.declared.token.Kind.TheVariants as kinds
+use Rattle.ir_lex.specs.declared.token_kind.TokenKind.TheVariants as kinds
+use Rattle.ir_lex.specs.declared.token.TokenForm.TheVariants as forms
 use Rattle.ir_print.specs.Operands as printed
 use Rattle.ir_print.specs.Operands.{further_typed, all_typed}
 use Rattle.ir_print.specs.Tokens.{tight, space, mark}
@@ -31,7 +31,7 @@ use Rattle.read_again.specs.Printed.{IsSomeWith, IsInstruction}
 use Rattle.read_again.specs.Readable.{CallReadable}
 use Rattle.read_again.specs.PartsPrinted.{Paired, IsOperand, IsArgument}
 use Rattle.read_again.specs.PartsReadable.{OperandReadable, ArgumentReadable}
-use Rattle.read_again.specs.Reads.{Reads, Any}
+use Rattle.read_again.specs.Reads.{Parses, Any}
 use Rattle.read_again.proofs.Composed.{then, next, last, nothing, left, right, no_more, one_more}
 use Rattle.read_again.proofs.PartsInstructions.{no_attachments}
 use Rattle.read_again.proofs.PartsOperands.{operand_read}
@@ -41,36 +41,36 @@ use Rattle.read_again.proofs.Words.{comma_read, open_paren_read, close_paren_rea
 
 -- ---- what isn't printed
 
-no_conventions : Reads conventions Any []
+no_conventions : Parses conventions Any []
 unfolding conventions
 no_conventions = last (no_more {P = Any} tt) (λ all u. nothing tt)
 
-no_types : Reads (optional types) (λ o. o ≡ None) []
+no_types : Parses (optional types) (λ o. o ≡ None) []
 no_types = right _ (nothing refl)
 
-no_attributes : Reads parameter_attributes Any []
+no_attributes : Parses parameter_attributes Any []
 unfolding parameter_attributes
 no_attributes = last (no_more {P = Any} tt) (λ all u. nothing tt)
 
-no_call_attributes : Reads call_attributes Any []
+no_call_attributes : Parses call_attributes Any []
 unfolding call_attributes
 no_call_attributes = last (no_more {P = Any} tt) (λ all u. nothing tt)
 
 -- ---- arguments
 
-argument_read : (blank : List ℕ) (a : Argument) → ArgumentReadable a → Reads (argument memory_shape) (IsArgument a) (printed.typed blank a.reg a.operand)
+argument_read : (blank : List ℕ) (a : Argument) → ArgumentReadable a → Parses (argument memory_shape) (IsArgument a) (printed.typed blank a.reg a.operand)
 unfolding argument argument_behind
 argument_read blank a h =
     next _ (register_read blank a.reg h.0) (then no_attributes (λ b u. last (operand_read space a.reg a.operand h.1) (λ v p. nothing (refl, p))))
 
-further_read : (as' : List Argument) → Each ArgumentReadable as' → Reads (Star (further_argument memory_shape)) (Paired IsArgument as') (further_typed as')
+further_read : (as' : List Argument) → Each ArgumentReadable as' → Parses (Star (further_argument memory_shape)) (Paired IsArgument as') (further_typed as')
 unfolding further_argument
 further_read [] h = no_more tt
 further_read (a ∷ as') h = one_more (then comma_read (λ b u. argument_read space a h.0)) (further_read as' h.1) (λ x xs p q. (p, q))
 
-arguments_read : (as' : List Argument) → Each ArgumentReadable as' → Reads (any_arguments memory_shape) (Paired IsArgument as') (all_typed as' ++ mark tight 41)
-unfolding any_arguments some_arguments head_of mark_head
-arguments_read [] h = right _ (last (single tight kinds.Other 41 [] (by_class type_refusal heads.CloseParen kinds.Other (41 ∷ []) refl)) (λ b v. nothing tt))
+arguments_read : (as' : List Argument) → Each ArgumentReadable as' → Parses (any_arguments memory_shape) (Paired IsArgument as') (all_typed as' ++ mark tight 41)
+unfolding any_arguments some_arguments kind_of mark_kind
+arguments_read [] h = right _ (last (single tight forms.Other 41 [] (by_class type_refusal kinds.CloseParen forms.Other (41 ∷ []) refl)) (λ b v. nothing tt))
 arguments_read (a ∷ as') h =
     left _ (then (then (argument_read tight a h.0) (λ x q. last (further_read as' h.1) (λ xs r. nothing {P = Paired IsArgument (a ∷ as')} (q, r)))) (λ all k. last (close_paren_read tight) (λ b v. nothing k)))
 
@@ -80,9 +80,9 @@ arguments_read (a ∷ as') h =
 module _ {A : Type 0} (refuse other : ℕ → TokenFault) (classes : List ℕ) (value : Tok → Option A) where
   taken_alike : (t : Tok) (a : A) → is_valued tokens refuse classes value t ≡ Ok a → is_valued tokens other classes value t ≡ Ok a
   unfolding is_valued
-  taken_alike t a e = by_test (contains classes (number t.head)) e
+  taken_alike t a e = by_test (contains classes (number t.kind)) e
     where
-      by_test : (b : Bool) → cond b (in_range (value t)) (Err (refuse (number t.head))) ≡ Ok a → cond b (in_range (value t)) (Err (other (number t.head))) ≡ Ok a
+      by_test : (b : Bool) → cond b (in_range (value t)) (Err (refuse (number t.kind))) ≡ Ok a → cond b (in_range (value t)) (Err (other (number t.kind))) ≡ Ok a
       by_test true e = e
       by_test false e = absurd cc
 
@@ -92,7 +92,7 @@ module _ {A : Type 0} (refuse other : ℕ → TokenFault) (classes : List ℕ) (
   token_alike (t ∷ u ∷ ts) a h = h
 
 -- another form for the second of two
-second : {A : Type 0} (g h k : Form Tok A) {P : A → Type 0} {ps : List Piece} → ((ts : List Tok) (a : A) → h ts a → k ts a) → Reads (form.either g h) P ps → Reads (form.either g k) P ps
+second : {A : Type 0} (g h k : Form Tok A) {P : A → Type 0} {ps : List Piece} → ((ts : List Tok) (a : A) → h ts a → k ts a) → Parses (form.either g h) P ps → Parses (form.either g k) P ps
 unfolding form.either
 second {A} g h k f r = record { value = λ behind line. let a = r.value behind line in (a.0, by_side a.1, a.2) }
   where
@@ -101,19 +101,19 @@ second {A} g h k f r = record { value = λ behind line. let a = r.value behind l
     by_side {ts} {a} (inr y) = inr (f ts a y)
 
 module _ (x : Operand) (readable : OperandReadable Ptr x) where
-  value_read : Reads (called_value memory_shape) (IsSomeWith (IsOperand x)) (printed.operand space x)
+  value_read : Parses (called_value memory_shape) (IsSomeWith (IsOperand x)) (printed.operand space x)
   unfolding called_value
   value_read = last (operand_read space Ptr x readable) (λ v p. nothing (v, refl, p))
 
-  plain_read : Reads (form.either (values.address memory_shape) (simple Ptr)) (IsOperand x) (printed.operand space x)
+  plain_read : Parses (form.either (values.address memory_shape) (simple Ptr)) (IsOperand x) (printed.operand space x)
   unfolding values.operand
   plain_read = operand_read space Ptr x readable
 
-  unmarked_read : Reads (unmarked_value memory_shape) (IsSomeWith (IsOperand x)) (printed.operand space x)
+  unmarked_read : Parses (unmarked_value memory_shape) (IsSomeWith (IsOperand x)) (printed.operand space x)
   unfolding unmarked_value
   unmarked_read = last (second _ _ _ (token_alike refusal marker_refusal (classes_of Ptr) (operand_of Ptr)) plain_read) (λ v p. nothing (v, refl, p))
 
-  callee_read : (named : Bool) (r : Option Reg) → Reads (callee memory_shape named r) (IsSomeWith (IsOperand x)) (printed.operand space x)
+  callee_read : (named : Bool) (r : Option Reg) → Parses (callee memory_shape named r) (IsSomeWith (IsOperand x)) (printed.operand space x)
   callee_read named (Some r) = value_read
   callee_read true None = unmarked_read
   callee_read false None = right _ value_read
@@ -121,7 +121,7 @@ module _ (x : Operand) (readable : OperandReadable Ptr x) where
 -- ---- calls
 
 pub calling_read : (named : Bool) (r : Option Reg) (x : Operand) (as' : List Argument) → CallReadable r x as'
-    → Reads (calling memory_shape named) (IsSomeWith (IsInstruction (Call r x as'))) (result r ++ (printed.operand space x ++ (mark tight 40 ++ (all_typed as' ++ mark tight 41))))
+    → Parses (calling memory_shape named) (IsSomeWith (IsInstruction (Call r x as'))) (result r ++ (printed.operand space x ++ (mark tight 40 ++ (all_typed as' ++ mark tight 41))))
 unfolding calling
 calling_read named r x as' h =
     then no_conventions (λ a u. next _ (result_read r h.0) (next _ no_types (then (callee_read x h.1 named r) (λ f p. then (open_paren_read tight) (λ b v.

@@ -2,9 +2,9 @@
 use Rattle.std.proofs.Common.{◌≡◌, ℕ, zero, suc, ◌≤◌, Bool, true, false, ◌&&◌, cond, nat_eq, List, [], ◌∷◌, codes, decimal, refl, sym, ap, subst, ◌∙◌, arith}
 use Rattle.std.specs.Fmt.{digits}
 use Rattle.ir_lex.specs.Bytes.{has}
-use Rattle.ir_lex.specs.Heads.{number, head_of, word_head, listed_head, words_2, words_3, words_4, words_5, global_head, width_of}
-use Rattle.ir_lex.specs.declared.head.Head.TheVariants as heads
-use Rattle.ir_lex.specs.declared.token.Kind.TheVariants as kinds
+use Rattle.ir_lex.specs.TokenKinds.{number, kind_of, word_kind, listed_kind, words_2, words_3, words_4, words_5, global_kind, width_of}
+use Rattle.ir_lex.specs.declared.token_kind.TokenKind.TheVariants as kinds
+use Rattle.ir_lex.specs.declared.token.TokenForm.TheVariants as forms
 use Rattle.ir_tree.specs.Names.{quoted}
 use Rattle.ir_tree.specs.declared.instr.BinaryOp.{BinaryOp}
 use Rattle.ir_tree.specs.declared.instr.BinaryOp.TheVariants as binary
@@ -21,8 +21,8 @@ use Rattle.read_again.proofs.Single.{no_number}
 
 -- ---- words
 
-pub opcode_class : (op : BinaryOp) → head_of kinds.Word (opcode op) [] ≡ binary_class op
-unfolding head_of word_head listed_head words_2 words_3 words_4
+pub opcode_class : (op : BinaryOp) → kind_of forms.Word (opcode op) [] ≡ binary_class op
+unfolding kind_of word_kind listed_kind words_2 words_3 words_4
 opcode_class binary.Add = refl
 opcode_class binary.Sub = refl
 opcode_class binary.Mul = refl
@@ -37,8 +37,8 @@ opcode_class binary.And = refl
 opcode_class binary.Or = refl
 opcode_class binary.Xor = refl
 
-pub condition_class : (p : Predicate) → head_of kinds.Word (condition p) [] ≡ predicate_class p
-unfolding head_of word_head listed_head words_2 words_3
+pub condition_class : (p : Predicate) → kind_of forms.Word (condition p) [] ≡ predicate_class p
+unfolding kind_of word_kind listed_kind words_2 words_3
 condition_class predicates.Eq = refl
 condition_class predicates.Ne = refl
 condition_class predicates.Ugt = refl
@@ -50,17 +50,17 @@ condition_class predicates.Sge = refl
 condition_class predicates.Slt = refl
 condition_class predicates.Sle = refl
 
-pub conversion_class : (op : CastOp) → head_of kinds.Word (conversion op) [] ≡ cast_class op
-unfolding head_of word_head listed_head words_4 words_5
+pub conversion_class : (op : CastOp) → kind_of forms.Word (conversion op) [] ≡ cast_class op
+unfolding kind_of word_kind listed_kind words_4 words_5
 conversion_class casts.Zext = refl
 conversion_class casts.Sext = refl
 conversion_class casts.Trunc = refl
 
-pub bit_class : (bits : ℕ) → head_of kinds.Word (truth bits) [] ≡ truth_class bits
-unfolding head_of word_head listed_head words_4 words_5
+pub bit_class : (bits : ℕ) → kind_of forms.Word (truth bits) [] ≡ truth_class bits
+unfolding kind_of word_kind listed_kind words_4 words_5
 bit_class bits = by_bit (nat_eq bits 0)
   where
-    by_bit : (t : Bool) → head_of kinds.Word (cond t (codes "false") (codes "true")) [] ≡ cond t heads.False heads.True
+    by_bit : (t : Bool) → kind_of forms.Word (cond t (codes "false") (codes "true")) [] ≡ cond t kinds.False kinds.True
     by_bit true = refl
     by_bit false = refl
 
@@ -68,7 +68,7 @@ bit_class bits = by_bit (nat_eq bits 0)
 
 -- the word of a width is of its class, and is read as the width
 abbrev is_width_word : ℕ → Bool
-is_width_word w = nat_eq (number (head_of kinds.Word (105 ∷ decimal w) [])) (number (integer_class w)) && nat_eq (width_of (decimal w)) w
+is_width_word w = nat_eq (number (kind_of forms.Word (105 ∷ decimal w) [])) (number (integer_class w)) && nat_eq (width_of (decimal w)) w
 
 abbrev are_width_words : ℕ → Bool
 are_width_words zero = true
@@ -93,21 +93,21 @@ up_to (suc n) w h some le = by_test (nat_eq w (suc n)) refl (λ lt. up_to n w (b
     by_test false e rec = rec (below w n e le)
 
 all_widths : are_width_words 64 ≡ true
-unfolding head_of word_head listed_head words_2 words_3 has digits
+unfolding kind_of word_kind listed_kind words_2 words_3 has digits
 all_widths = refl
 
 equal : (a b : ℕ) → nat_eq a b ≡ true → a ≡ b
 equal a b h = grind arith
 
-pub width_class : (w : ℕ) → 1 ≤ w → w ≤ 64 → (number (head_of kinds.Word (105 ∷ decimal w) []) ≡ number (integer_class w)) × (width_of (decimal w) ≡ w)
+pub width_class : (w : ℕ) → 1 ≤ w → w ≤ 64 → (number (kind_of forms.Word (105 ∷ decimal w) []) ≡ number (integer_class w)) × (width_of (decimal w) ≡ w)
 width_class w some le =
     let h = both _ _ (up_to 64 w all_widths some le) in
     (equal _ _ h.0, equal _ _ h.1)
 
 -- ---- names
 
-pub global_class : (name : List ℕ) → IsName name → IsOrdinary name → head_of kinds.Global (64 ∷ quoted name) [] ≡ heads.Global
-unfolding head_of global_head
+pub global_class : (name : List ℕ) → IsName name → IsOrdinary name → kind_of forms.Global (64 ∷ quoted name) [] ≡ kinds.Global
+unfolding kind_of global_kind
 global_class name n o =
     let t = name_text name n in
-    ap (λ (text : List ℕ). head_of kinds.Global (64 ∷ text) []) t.whole ∙ rw (no_number t.first t.others t.no_digit, t.means) o
+    ap (λ (text : List ℕ). kind_of forms.Global (64 ∷ text) []) t.whole ∙ rw (no_number t.first t.others t.no_digit, t.means) o

@@ -1,20 +1,20 @@
 -- What is printed in pieces is read by a form: one lemma for each way to put forms together.
 use Rattle.std.proofs.Common.{◌≡◌, ℕ, suc, true, Bool, List, [], ◌∷◌, ◌++◌, refl, sym, ap, subst, ◌∙◌, append_assoc, append-nil, inl, inr}
 use Rattle.ir_lex.specs.Blanks.{line_behind}
-use Rattle.ir_lex.specs.Heads.{head_of}
+use Rattle.ir_lex.specs.TokenKinds.{kind_of}
 use Rattle.ir_lex.specs.Pieces.{Piece, ends_at}
 use Rattle.ir_lex.specs.Tok.{Tok}
 use Rattle.ir_read.specs.Chained.{Chain}
 use Rattle.ir_read.specs.Forms as form
 use Rattle.ir_read.specs.Forms.{Form}
 use Rattle.read_again.specs.Texts.{line_after, tokens_before}
-use Rattle.read_again.specs.Reads.{Reads}
+use Rattle.read_again.specs.Reads.{Parses}
 
 -- ---- tokens
 
 -- the token of a piece
 abbrev token_of : ℕ → Piece → Bool → Tok
-token_of line p ends = record { kind = p.kind; text = p.first ∷ p.others; line = line_behind line p.blank; head = head_of p.kind (p.first ∷ p.others) []; ends_line = ends }
+token_of line p ends = record { form = p.form; text = p.first ∷ p.others; line = line_behind line p.blank; kind = kind_of p.form (p.first ∷ p.others) []; ends_line = ends }
 
 pub tokens_append : (behind : List Piece) (line : ℕ) (ps qs : List Piece) → tokens_before behind line (ps ++ qs) ≡ tokens_before (qs ++ behind) line ps ++ tokens_before behind (line_after line ps) qs
 tokens_append behind line [] qs = refl
@@ -26,7 +26,7 @@ tokens_append behind line (p ∷ ps) qs =
 -- ---- one form behind another
 
 pub then : {A B : Type 0} {g : Form Tok A} {k : A → Form Tok B} {P : A → Type 0} {Q : B → Type 0} {ps qs : List Piece}
-    → Reads g P ps → ((a : A) → P a → Reads (k a) Q qs) → Reads (form.◌>>=◌ g k) Q (ps ++ qs)
+    → Parses g P ps → ((a : A) → P a → Parses (k a) Q qs) → Parses (form.◌>>=◌ g k) Q (ps ++ qs)
 unfolding form.◌>>=◌
 then {ps = ps} {qs = qs} p q = record {
   value = λ behind line.
@@ -37,43 +37,43 @@ then {ps = ps} {qs = qs} p q = record {
 
 -- the same where the first value is known
 pub next : {A B : Type 0} {g : Form Tok A} {v : A} {Q : B → Type 0} {ps qs : List Piece} (k : A → Form Tok B)
-    → Reads g (λ a. a ≡ v) ps → Reads (k v) Q qs → Reads (form.◌>>=◌ g k) Q (ps ++ qs)
-next {Q = Q} {qs = qs} k p q = then p (λ a e. subst (λ x. Reads (k x) Q qs) (sym e) q)
+    → Parses g (λ a. a ≡ v) ps → Parses (k v) Q qs → Parses (form.◌>>=◌ g k) Q (ps ++ qs)
+next {Q = Q} {qs = qs} k p q = then p (λ a e. subst (λ x. Parses (k x) Q qs) (sym e) q)
 
 -- the last pieces, behind which the second form reads none
 pub last : {A B : Type 0} {g : Form Tok A} {k : A → Form Tok B} {P : A → Type 0} {Q : B → Type 0} {ps : List Piece}
-    → Reads g P ps → ((a : A) → P a → Reads (k a) Q []) → Reads (form.◌>>=◌ g k) Q ps
-last {g = g} {k = k} {Q = Q} {ps = ps} p q = subst (λ (all : List Piece). Reads (form.◌>>=◌ g k) Q all) (append-nil ps) (then p q)
+    → Parses g P ps → ((a : A) → P a → Parses (k a) Q []) → Parses (form.◌>>=◌ g k) Q ps
+last {g = g} {k = k} {Q = Q} {ps = ps} p q = subst (λ (all : List Piece). Parses (form.◌>>=◌ g k) Q all) (append-nil ps) (then p q)
 
 -- no piece, for this value
-pub nothing : {A : Type 0} {a : A} {P : A → Type 0} → P a → Reads (form.gives a) P []
+pub nothing : {A : Type 0} {a : A} {P : A → Type 0} → P a → Parses (form.gives a) P []
 nothing {a = a} p = record { value = λ behind line. (a, (refl, refl), p) }
 
 -- pieces that stand in other brackets
-pub regroup : {A : Type 0} {g : Form Tok A} {P : A → Type 0} (ps qs rs : List Piece) → Reads g P (ps ++ (qs ++ rs)) → Reads g P ((ps ++ qs) ++ rs)
-regroup {g = g} {P = P} ps qs rs p = subst (λ (all : List Piece). Reads g P all) (sym (append_assoc ps qs rs)) p
+pub regroup : {A : Type 0} {g : Form Tok A} {P : A → Type 0} (ps qs rs : List Piece) → Parses g P (ps ++ (qs ++ rs)) → Parses g P ((ps ++ qs) ++ rs)
+regroup {g = g} {P = P} ps qs rs p = subst (λ (all : List Piece). Parses g P all) (sym (append_assoc ps qs rs)) p
 
 -- a weaker property
-pub known_as : {A : Type 0} {g : Form Tok A} {P : A → Type 0} {ps : List Piece} (Q : A → Type 0) → ((a : A) → P a → Q a) → Reads g P ps → Reads g Q ps
+pub known_as : {A : Type 0} {g : Form Tok A} {P : A → Type 0} {ps : List Piece} (Q : A → Type 0) → ((a : A) → P a → Q a) → Parses g P ps → Parses g Q ps
 known_as Q q p = record { value = λ behind line. let a = p.value behind line in (a.0, a.1, q a.0 a.2) }
 
 -- ---- one of two forms
 
-pub left : {A : Type 0} {g : Form Tok A} {P : A → Type 0} {ps : List Piece} (h : Form Tok A) → Reads g P ps → Reads (form.either g h) P ps
+pub left : {A : Type 0} {g : Form Tok A} {P : A → Type 0} {ps : List Piece} (h : Form Tok A) → Parses g P ps → Parses (form.either g h) P ps
 unfolding form.either
 left h p = record { value = λ behind line. let a = p.value behind line in (a.0, inl a.1, a.2) }
 
-pub right : {A : Type 0} {h : Form Tok A} {P : A → Type 0} {ps : List Piece} (g : Form Tok A) → Reads h P ps → Reads (form.either g h) P ps
+pub right : {A : Type 0} {h : Form Tok A} {P : A → Type 0} {ps : List Piece} (g : Form Tok A) → Parses h P ps → Parses (form.either g h) P ps
 unfolding form.either
 right g p = record { value = λ behind line. let a = p.value behind line in (a.0, inr a.1, a.2) }
 
 -- ---- lists
 
-pub no_more : {A : Type 0} {one : Form Tok A} {P : List A → Type 0} → P [] → Reads (form.Star one) P []
+pub no_more : {A : Type 0} {one : Form Tok A} {P : List A → Type 0} → P [] → Parses (form.Star one) P []
 no_more p = record { value = λ behind line. ([], refl, p) }
 
 pub one_more : {A : Type 0} {one : Form Tok A} {P : A → Type 0} {Q R : List A → Type 0} {ps qs : List Piece}
-    → Reads one P ps → Reads (form.Star one) Q qs → ((a : A) (more : List A) → P a → Q more → R (a ∷ more)) → Reads (form.Star one) R (ps ++ qs)
+    → Parses one P ps → Parses (form.Star one) Q qs → ((a : A) (more : List A) → P a → Q more → R (a ∷ more)) → Parses (form.Star one) R (ps ++ qs)
 one_more {ps = ps} {qs = qs} p q r = record {
   value = λ behind line.
       let a = p.value (qs ++ behind) line in
@@ -81,11 +81,11 @@ one_more {ps = ps} {qs = qs} p q r = record {
       (a.0 ∷ b.0, (tokens_before (qs ++ behind) line ps, tokens_before behind (line_after line ps) qs, tokens_append behind line ps qs, a.1, b.1), r a.0 b.0 a.2 b.2);
 }
 
-pub no_more_within : {A : Type 0} {one : Form Tok A} {P : List A → Type 0} (room : ℕ) → P [] → Reads (form.Many one room) P []
+pub no_more_within : {A : Type 0} {one : Form Tok A} {P : List A → Type 0} (room : ℕ) → P [] → Parses (form.Many one room) P []
 no_more_within room p = record { value = λ behind line. ([], refl, p) }
 
 pub one_more_within : {A : Type 0} {one : Form Tok A} {P : A → Type 0} {Q R : List A → Type 0} {ps qs : List Piece} (room : ℕ)
-    → Reads one P ps → Reads (form.Many one room) Q qs → ((a : A) (more : List A) → P a → Q more → R (a ∷ more)) → Reads (form.Many one (suc room)) R (ps ++ qs)
+    → Parses one P ps → Parses (form.Many one room) Q qs → ((a : A) (more : List A) → P a → Q more → R (a ∷ more)) → Parses (form.Many one (suc room)) R (ps ++ qs)
 one_more_within {ps = ps} {qs = qs} room p q r = record {
   value = λ behind line.
       let a = p.value (qs ++ behind) line in
@@ -96,11 +96,11 @@ one_more_within {ps = ps} {qs = qs} room p q r = record {
 -- ---- lists whose pieces leave a state
 
 module _ {S A : Type 0} (final : S → Bool) (piece : S → Form Tok (A × S)) where
-  pub chain_ends : (s : S) {P : List A → Type 0} → final s ≡ true → P [] → Reads (Chain final piece s) P []
+  pub chain_ends : (s : S) {P : List A → Type 0} → final s ≡ true → P [] → Parses (Chain final piece s) P []
   chain_ends s e p = record { value = λ behind line. ([], (e, refl), p) }
 
   pub chain_goes_on : (s next : S) {P : A → Type 0} {Q R : List A → Type 0} {ps qs : List Piece}
-      → Reads (piece s) (λ x. P x.0 × (x.1 ≡ next)) ps → Reads (Chain final piece next) Q qs → ((a : A) (more : List A) → P a → Q more → R (a ∷ more)) → Reads (Chain final piece s) R (ps ++ qs)
+      → Parses (piece s) (λ x. P x.0 × (x.1 ≡ next)) ps → Parses (Chain final piece next) Q qs → ((a : A) (more : List A) → P a → Q more → R (a ∷ more)) → Parses (Chain final piece s) R (ps ++ qs)
   chain_goes_on s next {ps = ps} {qs = qs} p q r = record {
     value = λ behind line.
         let a = p.value (qs ++ behind) line in

@@ -4,8 +4,8 @@ use Rattle.std.specs.Char.{is_digit, digit_value}
 use Rattle.std.proofs.lemmas.Bool.{and_parts, ltb-true}
 use Rattle.ir_lex.specs.Quotes.{content, escaped, inside, spelled_at, stripped, unescaped, unescaped_behind}
 use Rattle.ir_lex.specs.declared.quotes.Escape.{Escape}
-use Rattle.ir_lex.specs.declared.token.Kind.{Kind}
-use Rattle.ir_lex.specs.declared.token.Kind.TheVariants as kinds
+use Rattle.ir_lex.specs.declared.token.TokenForm.{TokenForm}
+use Rattle.ir_lex.specs.declared.token.TokenForm.TheVariants as forms
 use Rattle.ir_tree.specs.Names.{AllBytes}
 use Rattle.read_again.specs.PrintedLaws.{ContentsAreBytes}
 
@@ -21,12 +21,12 @@ take_bytes zero (b ∷ bs) h = tt
 take_bytes (suc n) [] h = tt
 take_bytes (suc n) (b ∷ bs) h = (h.0, take_bytes n bs h.1)
 
-stripped_bytes : (kind : Kind) (text : List ℕ) → AllBytes text → AllBytes (stripped kind text)
-stripped_bytes kinds.Label text h = take_bytes (length text - 1) text h
-stripped_bytes kinds.Local text h = drop_bytes 1 text h
-stripped_bytes kinds.Global text h = drop_bytes 1 text h
-stripped_bytes kinds.Comdat text h = drop_bytes 1 text h
-stripped_bytes kinds.CStr text h = drop_bytes 1 text h
+stripped_bytes : (kind : TokenForm) (text : List ℕ) → AllBytes text → AllBytes (stripped kind text)
+stripped_bytes forms.Label text h = take_bytes (length text - 1) text h
+stripped_bytes forms.Local text h = drop_bytes 1 text h
+stripped_bytes forms.Global text h = drop_bytes 1 text h
+stripped_bytes forms.Comdat text h = drop_bytes 1 text h
+stripped_bytes forms.CStr text h = drop_bytes 1 text h
 stripped_bytes kind text h = h
 
 -- ---- escapes

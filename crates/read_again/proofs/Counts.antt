@@ -3,7 +3,7 @@ use Rattle.std.proofs.Common.{◌≡◌, ℕ, zero, suc, ◌+◌, ◌^◌, Bool,
 use Rattle.std.specs.List.{AllByRecursion as Each}
 use Rattle.ir_lex.specs.Tok.{Tok}
 use Rattle.ir_names.specs.Keys.{Key, key_of, same_key}
-use Rattle.ir_names.specs.Settled.{◌>>=◌, each}
+use Rattle.ir_names.specs.Resolving.{◌>>=◌, each}
 use Rattle.ir_names.specs.Types.{Types, or_unknown, entry_of, entry_in, shape_in, head_from, head_of, is_width, limit, scalar, within, opened, without_parts, expand, expanded}
 use Rattle.ir_names.specs.declared.fault.Fault.{Fault}
 use Rattle.ir_read.specs.Shapes as w

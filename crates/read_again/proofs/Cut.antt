@@ -30,7 +30,7 @@ all_cut at after [] l h = tt
 all_cut at after (t ∷ ts) (mid, n, l) h =
     let there : AllBytes (t.text ++ mid.bytes) = subst (λ (p : Place). AllBytes p.bytes) n.starts (skip_bytes false at.line at.bytes h) in
     let own : OfBytes t = front_bytes t.text mid.bytes there in
-    (record { bytes = own; named = name_fits t mid.bytes own n.good n.fits n.head }, all_cut mid after ts l (back_bytes t.text mid.bytes there))
+    (record { bytes = own; named = name_fits t mid.bytes own n.good n.fits n.kind }, all_cut mid after ts l (back_bytes t.text mid.bytes there))
 
 pub tokens_cut : TokensAreCut
 tokens_cut bytes ts h (line, s) = all_cut (place 1 bytes) s.after ts s.lead h

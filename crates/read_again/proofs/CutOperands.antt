@@ -3,7 +3,7 @@ use Rattle.std.proofs.Common.{ℕ, ◌-◌, ◌^◌, Bool, true, false, cond, na
 use Rattle.std.specs.List.{AllByRecursion as Each}
 use Rattle.ir_lex.specs.Bytes.{has}
 use Rattle.ir_lex.specs.Pieces.{AllBlank}
-use Rattle.ir_lex.specs.declared.token.Kind.TheVariants as kinds
+use Rattle.ir_lex.specs.declared.token.TokenForm.TheVariants as forms
 use Rattle.ir_tree.specs.Forms.{Form, Forms, int, pointer, array, structure, no_parts, part}
 use Rattle.ir_tree.specs.declared.operand.Argument.{Argument}
 use Rattle.ir_tree.specs.declared.operand.Operand.{Operand}
@@ -54,7 +54,7 @@ mutual
 pub signed_fits : (blank : List ℕ) (w bits : ℕ) → AllBlank blank → Fits (is_free blank) (signed_piece blank w bits)
 signed_fits blank w bits b = by_sign (nat_lt bits (2 ^ (w - 1)))
   where
-    by_sign : (t : Bool) → Fits (is_free blank) (piece blank kinds.Number (cond t (decimal bits) (45 ∷ decimal (2 ^ w - bits))))
+    by_sign : (t : Bool) → Fits (is_free blank) (piece blank forms.Number (cond t (decimal bits) (45 ∷ decimal (2 ^ w - bits))))
     by_sign true = natural_fits blank bits b
     by_sign false = negative_fits blank (2 ^ w - bits) b
 

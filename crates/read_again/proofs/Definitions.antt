@@ -10,16 +10,16 @@ use Rattle.ir_tree.specs.declared.function.Function.{Function}
 use Rattle.read_again.specs.Printed.{IsDefinition}
 use Rattle.read_again.specs.Readable.{DefinitionReadable}
 use Rattle.read_again.proofs.Blocks.{blocks_read}
-use Rattle.read_again.specs.Reads.{Reads}
+use Rattle.read_again.specs.Reads.{Parses}
 use Rattle.read_again.proofs.Attributes.{attributes_read}
 use Rattle.read_again.proofs.Composed.{then, last, nothing}
 use Rattle.read_again.proofs.Heads.{head_read, definition_pieces}
 use Rattle.read_again.proofs.Words.{open_brace_read, close_brace_read, define_read}
 
-pub definition_read : (room : ℕ) (f : Function) → DefinitionReadable room f → Reads (read.definition room) (IsDefinition f) (printed.definition f)
+pub definition_read : (room : ℕ) (f : Function) → DefinitionReadable room f → Parses (read.definition room) (IsDefinition f) (printed.definition f)
 unfolding read.definition
 definition_read room f h =
-    subst (λ (qs : List Piece). Reads (read.definition room) (IsDefinition f) qs) (sym (definition_pieces f))
+    subst (λ (qs : List Piece). Parses (read.definition room) (IsDefinition f) qs) (sym (definition_pieces f))
     (then (define_read tight) (λ a u. then (head_read room f h.head) (λ d p. then (attributes_read f) (λ k q. then (open_brace_read space) (λ b v.
     then (blocks_read FURTHER_BLOCKS INSTRUCTIONS f.blocks h.body h.few_blocks h.few_instructions) (λ bs r. last (close_brace_read next_line) (λ c w. nothing (
       record {

@@ -9,12 +9,12 @@ use Rattle.ir_lex.specs.Tok.{Tok}
 use Rattle.named_values.specs.Blocks.{function_in}
 use Rattle.ir_names.specs.Groups.{any_of, no_groups, is_optnone}
 use Rattle.ir_names.specs.Marks.{Mark, global, all, block_marks, typed_marks, init_marks, item_marks, marks_of}
-use Rattle.ir_names.specs.Settled.{◌>>=◌}
+use Rattle.ir_names.specs.Resolving.{◌>>=◌}
 use Rattle.ir_names.specs.Types.{Types}
 use Rattle.ir_names.specs.declared.groups.Groups.{Groups}
 use Rattle.ir_parse.specs.Targets.{layout_string, triple_string}
 use Rattle.ir_parse.specs.Values.{put, value_in, values_in}
-use Rattle.ir_read.specs.declared.raw.Head.{Head}
+use Rattle.ir_read.specs.declared.raw.FunctionHeader.{FunctionHeader}
 use Rattle.ir_read.specs.declared.raw.Item.{Item}
 use Rattle.ir_read.specs.declared.raw.Item.TheVariants as items
 use Rattle.ir_tree.specs.Formed.{Formed}
@@ -72,7 +72,7 @@ module _ (known : List Symbol) where
   says_nothing : (says : Bool) (named : List Tok) → says ≡ false → named ≡ [] → says || any_of [] named ≡ false
   says_nothing says named s n = ap (λ (b : Bool). b || any_of [] named) s ∙ ap (any_of []) n
 
-  declaration_value : (types : Types) (f : Function) (h : Head) → f.blocks ≡ [] → Formed f → HeadReadable FURTHER_PARAMETERS f → FunctionKnown f → IsDeclared f h → function_in types h [] false false ≡ Ok f
+  declaration_value : (types : Types) (f : Function) (h : FunctionHeader) → f.blocks ≡ [] → Formed f → HeadReadable FURTHER_PARAMETERS f → FunctionKnown f → IsDeclared f h → function_in types h [] false false ≡ Ok f
   declaration_value types f h e formed r k d =
       subst (λ (b : Bool). function_in types h [] false b ≡ Ok f) (says_nothing h.optnone h.groups d.optnone d.groups)
       (subst (λ (b : Bool). function_in types h [] b (is_optnone no_groups h) ≡ Ok f) (says_nothing h.noinline h.groups d.noinline d.groups)

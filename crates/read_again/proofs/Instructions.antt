@@ -2,7 +2,7 @@
 use Rattle.std.proofs.Common.{◌≡◌, ℕ, Bool, Option, Some, None, Ok, List, [], ◌∷◌, map, refl, ap, ◌∙◌}
 use Rattle.std.specs.List.{AllByRecursion as Each}
 use Rattle.ir_names.specs.Bodies.{allocated, align_or, reg_align, instr_in, case_in, end_in, argument_in, incoming_in}
-use Rattle.ir_names.specs.Settled.{each}
+use Rattle.ir_names.specs.Resolving.{each}
 use Rattle.ir_names.specs.Types.{Types, expanded}
 use Rattle.ir_names.specs.declared.locals.Sort.{Sort}
 use Rattle.ir_names.specs.declared.locals.Sort.TheVariants.{Block}
@@ -13,7 +13,7 @@ use Rattle.ir_read.specs.declared.raw.Instr.TheVariants as ri
 use Rattle.ir_read.specs.declared.raw.Terminator as raw_end
 use Rattle.ir_read.specs.declared.raw.Terminator.TheVariants as re
 use Rattle.ir_read.specs.declared.shape.Typed.{Typed}
-use Rattle.ir_tree.specs.Flow.{targets}
+use Rattle.ir_tree.specs.Flow.{successors}
 use Rattle.ir_tree.specs.Forms.{Form}
 use Rattle.ir_tree.specs.Items.{reads, taken}
 use Rattle.ir_tree.specs.Layout.{align}

@@ -3,13 +3,13 @@ use Rattle.std.proofs.Common.{◌≡◌, ℕ, suc, Bool, true, false, ◌&&◌, 
 use Rattle.std.specs.List.{list_all}
 use Rattle.ir_lex.specs.Blanks.{pass}
 use Rattle.ir_lex.specs.Bytes.{starts_word, has}
-use Rattle.ir_lex.specs.Heads.{head_of}
+use Rattle.ir_lex.specs.TokenKinds.{kind_of}
 use Rattle.ir_lex.specs.Lexing.{is_bad}
 use Rattle.ir_lex.specs.Pieces.{Piece, AllBlank, bytes_of}
 use Rattle.ir_lex.specs.Rows.{best_fit, fit}
 use Rattle.ir_lex.specs.declared.bytes.Set.{Set}
 use Rattle.ir_lex.specs.declared.bytes.Set.TheVariants.{WordBytes}
-use Rattle.ir_lex.specs.declared.token.Kind.TheVariants as kinds
+use Rattle.ir_lex.specs.declared.token.TokenForm.TheVariants as forms
 use Rattle.ir_lex.proofs.Spelled.{AllIn}
 use Rattle.ir_tree.specs.Names.{quoted}
 use Rattle.ir_print.specs.Tokens.{tight, space, next_line, indent, piece, word, mark, comma, local, global, width, natural, label_line, closed, string, byte_string}
@@ -22,9 +22,9 @@ use Rattle.read_again.proofs.Single.{IsToken, IsMark, good, word_token, width_to
 pub record ReadsAs (p : Piece) (rest : List ℕ) : Type 0 where
   pub blank : AllBlank p.blank
   pub starts : pass false p.first ≡ None
-  pub fits : best_fit (p.first ∷ (p.others ++ rest)) ≡ fit p.kind (suc (length p.others))
+  pub fits : best_fit (p.first ∷ (p.others ++ rest)) ≡ fit p.form (suc (length p.others))
   pub good : is_bad (p.first ∷ (p.others ++ rest)) ≡ false
-  pub settled : (behind : List ℕ) → head_of p.kind (p.first ∷ p.others) behind ≡ head_of p.kind (p.first ∷ p.others) []
+  pub settled : (behind : List ℕ) → kind_of p.form (p.first ∷ p.others) behind ≡ kind_of p.form (p.first ∷ p.others) []
 
 -- so is each of these, where these bytes stand behind the last
 abbrev pub AllRead : List ℕ → List Piece → Type 0
@@ -91,14 +91,14 @@ free_behind (b ∷ bs) bytes rest a = blank_apart b a.0
 
 -- ---- single tokens
 
-pub one : (p : Piece) → AllBlank p.blank → IsToken p.kind p.first p.others → Fits (is_free p.blank) (p ∷ [])
+pub one : (p : Piece) → AllBlank p.blank → IsToken p.form p.first p.others → Fits (is_free p.blank) (p ∷ [])
 one p b t = record {
   read = λ rest a. (
     record {
       blank = b;
       starts = t.starts;
       fits = t.fits rest a;
-      good = good p.kind p.first p.others rest (t.fits rest a) (t.shut rest a) t.named;
+      good = good p.form p.first p.others rest (t.fits rest a) (t.shut rest a) t.named;
       settled = t.settled;
     },
     tt,
@@ -112,7 +112,7 @@ mark_read blank c rest b m = (
     blank = b;
     starts = m.starts;
     fits = m.fits rest;
-    good = good kinds.Other c [] rest (m.fits rest) (m.shut rest) (mark_named (c ∷ []));
+    good = good forms.Other c [] rest (m.fits rest) (m.shut rest) (mark_named (c ∷ []));
     settled = m.settled;
   },
   tt,
@@ -171,37 +171,37 @@ pub keyword : (blank text : List ℕ) → AllBlank blank → is_keyword text ≡
 keyword blank [] b h = absurd cc
 keyword blank (c ∷ cs) b h =
     let s = both (starts_word c) _ h in
-    one (record { blank = blank; kind = kinds.Word; first = c; others = cs }) b (word_token c cs s.0 (all_in WordBytes cs s.1))
+    one (record { blank = blank; form = forms.Word; first = c; others = cs }) b (word_token c cs s.0 (all_in WordBytes cs s.1))
 
 pub width_fits : (blank : List ℕ) (w : ℕ) → AllBlank blank → Fits (is_free blank) (width blank w)
-width_fits blank w b = one (record { blank = blank; kind = kinds.Word; first = 105; others = decimal w }) b (width_token w)
+width_fits blank w b = one (record { blank = blank; form = forms.Word; first = 105; others = decimal w }) b (width_token w)
 
 -- ---- numbers, names and strings
 
 pub natural_fits : (blank : List ℕ) (n : ℕ) → AllBlank blank → Fits (is_free blank) (natural blank n)
 natural_fits blank n b =
     let t = numeral n in
-    subst (λ (text : List ℕ). Fits (is_free blank) (piece blank kinds.Number text)) (sym t.whole)
-    (one (record { blank = blank; kind = kinds.Number; first = t.first; others = t.others }) b (digits_token t.first t.others t.digits))
+    subst (λ (text : List ℕ). Fits (is_free blank) (piece blank forms.Number text)) (sym t.whole)
+    (one (record { blank = blank; form = forms.Number; first = t.first; others = t.others }) b (digits_token t.first t.others t.digits))
 
 -- a minus and digits
-pub negative_fits : (blank : List ℕ) (n : ℕ) → AllBlank blank → Fits (is_free blank) (piece blank kinds.Number (45 ∷ decimal n))
-negative_fits blank n b = one (record { blank = blank; kind = kinds.Number; first = 45; others = decimal n }) b (negative_token n)
+pub negative_fits : (blank : List ℕ) (n : ℕ) → AllBlank blank → Fits (is_free blank) (piece blank forms.Number (45 ∷ decimal n))
+negative_fits blank n b = one (record { blank = blank; form = forms.Number; first = 45; others = decimal n }) b (negative_token n)
 
 pub local_fits : (blank : List ℕ) (n : ℕ) → AllBlank blank → Fits (is_free blank) (local blank n)
-local_fits blank n b = one (record { blank = blank; kind = kinds.Local; first = 37; others = decimal n }) b (local_token n)
+local_fits blank n b = one (record { blank = blank; form = forms.Local; first = 37; others = decimal n }) b (local_token n)
 
 pub label_fits : (n : ℕ) → Fits true (label_line n)
 label_fits n =
     let t = numeral n in
-    subst (λ (text : List ℕ). Fits true (piece next_line kinds.Label (text ++ 58 ∷ []))) (sym t.whole)
-    (one (record { blank = next_line; kind = kinds.Label; first = t.first; others = t.others ++ 58 ∷ [] }) lined (label_token t.first t.others t.digits))
+    subst (λ (text : List ℕ). Fits true (piece next_line forms.Label (text ++ 58 ∷ []))) (sym t.whole)
+    (one (record { blank = next_line; form = forms.Label; first = t.first; others = t.others ++ 58 ∷ [] }) lined (label_token t.first t.others t.digits))
 
 pub global_fits : (blank name : List ℕ) → AllBlank blank → IsName name → Fits (is_free blank) (global blank name)
-global_fits blank name b n = one (record { blank = blank; kind = kinds.Global; first = 64; others = quoted name }) b (global_token name n)
+global_fits blank name b n = one (record { blank = blank; form = forms.Global; first = 64; others = quoted name }) b (global_token name n)
 
 pub string_fits : (blank text : List ℕ) → AllBlank blank → Fits (is_free blank) (string blank text)
-string_fits blank text b = one (record { blank = blank; kind = kinds.Str; first = 34; others = closed text }) b (string_token text)
+string_fits blank text b = one (record { blank = blank; form = forms.Str; first = 34; others = closed text }) b (string_token text)
 
 pub byte_string_fits : (blank text : List ℕ) → AllBlank blank → Fits (is_free blank) (byte_string blank text)
-byte_string_fits blank text b = one (record { blank = blank; kind = kinds.CStr; first = 99; others = 34 ∷ closed text }) b (byte_string_token text)
+byte_string_fits blank text b = one (record { blank = blank; form = forms.CStr; first = 99; others = 34 ∷ closed text }) b (byte_string_token text)

@@ -38,7 +38,7 @@ number_is n small = folded 0 (decimal n) ∙ decimal_again n (omega (arith, smal
 -- ---- keys
 
 -- a name that is bare digits
-numbered : (t : Tok) (n : ℕ) → IsSmall n → stripped t.kind t.text ≡ decimal n → number_of t ≡ Some n
+numbered : (t : Tok) (n : ℕ) → IsSmall n → stripped t.form t.text ≡ decimal n → number_of t ≡ Some n
 unfolding number_of
 numbered t n small e =
     ap (λ (bare : List ℕ). cond (is_numeral bare) (cond (nat_lt (decimal_of bare) (2 ^ 32)) (Some (decimal_of bare)) None) None) e
@@ -51,10 +51,10 @@ numbered t n small e =
 
 keyed : (t : Tok) (n : ℕ) → number_of t ≡ Some n → key_of t ≡ written n
 unfolding key_of
-keyed t n e = ap (λ (o : Option ℕ). elim o as (λ x. Key) [ None ↦ spelled (content t.kind t.text) | Some m ↦ written m ]) e
+keyed t n e = ap (λ (o : Option ℕ). elim o as (λ x. Key) [ None ↦ spelled (content t.form t.text) | Some m ↦ written m ]) e
 
-bare_local : (n : ℕ) (t : Tok) → IsNumber n t → stripped t.kind t.text ≡ decimal n
-bare_local n t i = ap (λ k. stripped k t.text) i.kind ∙ ap (drop 1) i.text
+bare_local : (n : ℕ) (t : Tok) → IsNumber n t → stripped t.form t.text ≡ decimal n
+bare_local n t i = ap (λ k. stripped k t.text) i.form ∙ ap (drop 1) i.text
 
 -- without its colon
 without_colon : (ds : List ℕ) → take (length (ds ++ 58 ∷ []) - 1) (ds ++ 58 ∷ []) ≡ ds
@@ -71,8 +71,8 @@ without_colon ds = ap (λ (n : ℕ). take (n - 1) (ds ++ 58 ∷ [])) (one_more d
     front [] = refl
     front (d ∷ ds) = ap (λ (more : List ℕ). d ∷ more) (front ds)
 
-bare_label : (n : ℕ) (t : Tok) → IsLabel n t → stripped t.kind t.text ≡ decimal n
-bare_label n t i = ap (λ k. stripped k t.text) i.kind ∙ ap (λ (text : List ℕ). take (length text - 1) text) i.text ∙ without_colon (decimal n)
+bare_label : (n : ℕ) (t : Tok) → IsLabel n t → stripped t.form t.text ≡ decimal n
+bare_label n t i = ap (λ k. stripped k t.text) i.form ∙ ap (λ (text : List ℕ). take (length text - 1) text) i.text ∙ without_colon (decimal n)
 
 pub local_key : (n : ℕ) (t : Tok) → IsSmall n → IsNumber n t → key_of t ≡ written n
 local_key n t small i = keyed t n (numbered t n small (bare_local n t i))

@@ -1,10 +1,10 @@
 -- The label of a block is read as its number (LangRef, "Identifiers").
 use Rattle.std.proofs.Common.{◌≡◌, ℕ, suc, ◌-◌, true, Some, List, [], ◌∷◌, ◌++◌, length, take, decimal, refl, ap, ◌∙◌, arith}
-use Rattle.ir_lex.specs.Heads.{number, head_of}
+use Rattle.ir_lex.specs.TokenKinds.{number, kind_of}
 use Rattle.ir_lex.specs.Quotes.{stripped}
 use Rattle.ir_lex.specs.Tok.{Tok}
-use Rattle.ir_lex.specs.declared.head.Head.TheVariants as heads
-use Rattle.ir_lex.specs.declared.token.Kind.TheVariants as kinds
+use Rattle.ir_lex.specs.declared.token_kind.TokenKind.TheVariants as kinds
+use Rattle.ir_lex.specs.declared.token.TokenForm.TheVariants as forms
 use Rattle.ir_print.specs.Tokens.{next_line, label_line}
 use Rattle.ir_read.specs.Classes.{tokens, refusal}
 use Rattle.ir_read.specs.Operands.{named, named_by}
@@ -13,13 +13,13 @@ use Rattle.ir_read.specs.Forms.{token}
 use Rattle.ir_read.specs.Rules.{is_valued}
 use Rattle.read_again.specs.PartsPrinted.{IsLabel}
 use Rattle.read_again.specs.PartsReadable.{IsSmall}
-use Rattle.read_again.specs.Reads.{Reads}
+use Rattle.read_again.specs.Reads.{Parses}
 use Rattle.read_again.proofs.PrintedNames.{small_named}
 use Rattle.read_again.proofs.Numerals.{decimal_again, decimal_nonempty}
 use Rattle.read_again.proofs.Tokens.{IsToken, class_of, NonEmpty, piece_read, by_value}
 
 abbrev LABEL : List ℕ
-LABEL = number heads.Label ∷ []
+LABEL = number kinds.Label ∷ []
 
 abbrev label_text : ℕ → List ℕ
 label_text n = decimal n ++ 58 ∷ []
@@ -27,8 +27,8 @@ label_text n = decimal n ++ 58 ∷ []
 label_nonempty : (n : ℕ) → NonEmpty (label_text n)
 label_nonempty n = let s = decimal_nonempty n in record { first = s.first; others = s.others ++ 58 ∷ []; whole = ap (λ (ds : List ℕ). ds ++ 58 ∷ []) s.whole }
 
-label_class : (text : List ℕ) → contains LABEL (class_of kinds.Label text) ≡ true
-unfolding head_of
+label_class : (text : List ℕ) → contains LABEL (class_of forms.Label text) ≡ true
+unfolding kind_of
 label_class text = refl
 
 -- without its colon
@@ -46,12 +46,12 @@ without_colon ds = ap (λ (n : ℕ). take (n - 1) (ds ++ 58 ∷ [])) (one_more d
     front [] = refl
     front (d ∷ ds) = ap (λ (more : List ℕ). d ∷ more) (front ds)
 
-bare : (n : ℕ) (t : Tok) → IsToken kinds.Label (label_text n) t → stripped t.kind t.text ≡ decimal n
-bare n t i = ap (λ k. stripped k t.text) i.kind ∙ ap (λ (text : List ℕ). take (length text - 1) text) i.text ∙ without_colon (decimal n)
+bare : (n : ℕ) (t : Tok) → IsToken forms.Label (label_text n) t → stripped t.form t.text ≡ decimal n
+bare n t i = ap (λ k. stripped k t.text) i.form ∙ ap (λ (text : List ℕ). take (length text - 1) text) i.text ∙ without_colon (decimal n)
 
-label_named : (n : ℕ) → IsSmall n → (t : Tok) → IsToken kinds.Label (label_text n) t → named t ≡ Some t
+label_named : (n : ℕ) → IsSmall n → (t : Tok) → IsToken forms.Label (label_text n) t → named t ≡ Some t
 unfolding named
 label_named n h t i = ap (named_by t) (bare n t i) ∙ small_named t (decimal n) n (decimal_again n (omega (arith, h))) h
 
-pub label_read : (n : ℕ) → IsSmall n → Reads (token (is_valued tokens refusal LABEL named)) (IsLabel n) (label_line n)
-label_read n h = piece_read next_line kinds.Label (label_text n) (label_nonempty n) (by_value refusal LABEL named kinds.Label (label_text n) (label_class (label_text n)) (λ t i. (t, label_named n h t i, record { kind = i.kind; text = i.text })))
+pub label_read : (n : ℕ) → IsSmall n → Parses (token (is_valued tokens refusal LABEL named)) (IsLabel n) (label_line n)
+label_read n h = piece_read next_line forms.Label (label_text n) (label_nonempty n) (by_value refusal LABEL named forms.Label (label_text n) (label_class (label_text n)) (λ t i. (t, label_named n h t i, record { form = i.form; text = i.text })))

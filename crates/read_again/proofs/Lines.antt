@@ -4,12 +4,12 @@ use Rattle.std.proofs.Common.{◌≡◌, ℕ, Bool, true, false, Option, Some, N
 use Rattle.ir_bodies.specs.Lines as read
 use Rattle.ir_bodies.specs.Lines.{GIVING, OPCODES, opcode_by, opcode_of, begun_of, attended, behind, lined, line_behind, named_line, plain_line, line}
 use Rattle.ir_bodies.specs.declared.opcodes.Opcode.{Opcode}
-use Rattle.ir_lex.specs.Heads.{number, head_of, word_head, listed_head, words_3, words_4, words_5, words_6, words_13}
+use Rattle.ir_lex.specs.TokenKinds.{number, kind_of, word_kind, listed_kind, words_3, words_4, words_5, words_6, words_13}
 use Rattle.ir_lex.specs.Pieces.{Piece}
 use Rattle.ir_lex.specs.Tok.{Tok}
-use Rattle.ir_lex.specs.declared.head.Head.{Head}
-use Rattle.ir_lex.specs.declared.head.Head.TheVariants as heads
-use Rattle.ir_lex.specs.declared.token.Kind.TheVariants as kinds
+use Rattle.ir_lex.specs.declared.token_kind.TokenKind.{TokenKind}
+use Rattle.ir_lex.specs.declared.token_kind.TokenKind.TheVariants as kinds
+use Rattle.ir_lex.specs.declared.token.TokenForm.TheVariants as forms
 use Rattle.ir_print.specs.Instructions.{opcode, conversion, instruction, line_of}
 use Rattle.ir_print.specs.Operands.{typed}
 use Rattle.ir_print.specs.Tokens.{space, indent, word}
@@ -40,7 +40,7 @@ use Rattle.read_again.proofs.Classes.{opcode_class, conversion_class}
 use Rattle.read_again.specs.Behind.{word_class, behind_opcode}
 use Rattle.read_again.specs.PartsPrinted.{IsInstr}
 use Rattle.read_again.specs.PartsReadable.{IsSmall, OperandReadable}
-use Rattle.read_again.specs.Reads.{Reads}
+use Rattle.read_again.specs.Reads.{Parses}
 use Rattle.read_again.proofs.Addressing.{alloca_read, address_read}
 use Rattle.read_again.proofs.Composed.{then, next, last, nothing, regroup, left, right}
 use Rattle.read_again.proofs.PartsInstructions.{no_attachments, binary_read, icmp_read, cast_read, select_read, freeze_read, load_read, store_read}
@@ -55,11 +55,11 @@ use Rattle.read_again.proofs.Words.{to_read, equals_read}
 -- ---- words
 
 -- a text that is a word of this class
-record IsWord (h : Head) (text : List ℕ) : Type 0 where
+record IsWord (h : TokenKind) (text : List ℕ) : Type 0 where
   some : NonEmpty text
-  class : head_of kinds.Word text [] ≡ h
+  class : kind_of forms.Word text [] ≡ h
 
-a_word : (h : Head) (c : ℕ) (cs : List ℕ) → head_of kinds.Word (c ∷ cs) [] ≡ h → IsWord h (c ∷ cs)
+a_word : (h : TokenKind) (c : ℕ) (cs : List ℕ) → kind_of forms.Word (c ∷ cs) [] ≡ h → IsWord h (c ∷ cs)
 a_word h c cs e = record { some = record { first = c; others = cs; whole = refl }; class = e }
 
 nonempty : (c : ℕ) (cs : List ℕ) → NonEmpty (c ∷ cs)
@@ -91,13 +91,13 @@ conversion_word op = record { some = by_op op; class = conversion_class op }
     by_op casts.Sext = nonempty _ _
     by_op casts.Trunc = nonempty _ _
 
-giving_read : (h : Head) (text : List ℕ) → IsWord h text → contains GIVING (number h) ≡ true → Reads (one_of GIVING opcode_of) (λ o. o ≡ opcode_by h) (word space text)
+giving_read : (h : TokenKind) (text : List ℕ) → IsWord h text → contains GIVING (number h) ≡ true → Parses (one_of GIVING opcode_of) (λ o. o ≡ opcode_by h) (word space text)
 giving_read h text w there =
-    piece_read space kinds.Word text w.some (by_classes refusal GIVING opcode_of kinds.Word text (ap (λ (g : Head). contains GIVING (number g)) w.class ∙ there) (λ t i. ap opcode_by (i.head ∙ w.class)))
+    piece_read space forms.Word text w.some (by_classes refusal GIVING opcode_of forms.Word text (ap (λ (g : TokenKind). contains GIVING (number g)) w.class ∙ there) (λ t i. ap opcode_by (i.kind ∙ w.class)))
 
-begun_read : (h : Head) (text : List ℕ) → IsWord h text → contains OPCODES (number h) ≡ true → Reads (one_of OPCODES begun_of) (λ b. b.opcode ≡ opcode_by h) (word indent text)
+begun_read : (h : TokenKind) (text : List ℕ) → IsWord h text → contains OPCODES (number h) ≡ true → Parses (one_of OPCODES begun_of) (λ b. b.opcode ≡ opcode_by h) (word indent text)
 begun_read h text w there =
-    piece_read indent kinds.Word text w.some (by_classes refusal OPCODES begun_of kinds.Word text (ap (λ (g : Head). contains OPCODES (number g)) w.class ∙ there) (λ t i. ap opcode_by (i.head ∙ w.class)))
+    piece_read indent forms.Word text w.some (by_classes refusal OPCODES begun_of forms.Word text (ap (λ (g : TokenKind). contains OPCODES (number g)) w.class ∙ there) (λ t i. ap opcode_by (i.kind ∙ w.class)))
 
 -- instructions but stores may have a name
 giving : (i : Instr) → MayHaveName i → contains GIVING (number (word_class i)) ≡ true
@@ -169,15 +169,15 @@ stating (Phi reg edges) = refl
 
 -- ---- behind the word
 
-attended_read : {g : Form Tok raw_instr.Instr} {P : raw_instr.Instr → Type 0} {ps : List Piece} → Reads g P ps → Reads (attended g) (IsSomeWith P) ps
+attended_read : {g : Form Tok raw_instr.Instr} {P : raw_instr.Instr → Type 0} {ps : List Piece} → Parses g P ps → Parses (attended g) (IsSomeWith P) ps
 unfolding attended
 attended_read r = last r (λ i p. then no_attachments (λ a u. nothing (i, refl, p)))
 
-kept_read : {g : Form Tok raw_instr.Instr} {P : raw_instr.Instr → Type 0} {ps : List Piece} → Reads g P ps → Reads (read.kept g) (IsSomeWith P) ps
+kept_read : {g : Form Tok raw_instr.Instr} {P : raw_instr.Instr → Type 0} {ps : List Piece} → Parses g P ps → Parses (read.kept g) (IsSomeWith P) ps
 unfolding read.kept
 kept_read r = last r (λ i p. nothing (i, refl, p))
 
-opcode_behind : (named : Bool) (op : BinaryOp) {P : raw_instr.Instr → Type 0} {ps : List Piece} → Reads (behind_opcode op) P ps → Reads (behind slots_fit memory_shape named (opcode_by (binary_class op))) (IsSomeWith P) ps
+opcode_behind : (named : Bool) (op : BinaryOp) {P : raw_instr.Instr → Type 0} {ps : List Piece} → Parses (behind_opcode op) P ps → Parses (behind slots_fit memory_shape named (opcode_by (binary_class op))) (IsSomeWith P) ps
 opcode_behind named binary.Add r = attended_read r
 opcode_behind named binary.Sub r = attended_read r
 opcode_behind named binary.Mul r = attended_read r
@@ -192,7 +192,7 @@ opcode_behind named binary.And r = attended_read r
 opcode_behind named binary.Or r = attended_read r
 opcode_behind named binary.Xor r = attended_read r
 
-casting_read : (op : CastOp) (from : Reg) (x : Operand) (to : Reg) → IsReg from → OperandReadable from x → IsReg to → Reads (casting memory_shape op) (IsInstr (Cast op from x to)) (typed space from x ++ (word space (codes "to") ++ register space to))
+casting_read : (op : CastOp) (from : Reg) (x : Operand) (to : Reg) → IsReg from → OperandReadable from x → IsReg to → Parses (casting memory_shape op) (IsInstr (Cast op from x to)) (typed space from x ++ (word space (codes "to") ++ register space to))
 unfolding casting
 casting_read op from x to r p s =
     regroup (register space from) _ _
@@ -200,7 +200,7 @@ casting_read op from x to r p s =
 
 -- behind `sext` no flag may stand
 conversion_behind : (named : Bool) (op : CastOp) (from : Reg) (x : Operand) (to : Reg) → IsReg from → OperandReadable from x → IsReg to
-    → Reads (behind slots_fit memory_shape named (opcode_by (cast_class op))) (IsSomeWith (IsInstr (Cast op from x to))) (typed space from x ++ (word space (codes "to") ++ register space to))
+    → Parses (behind slots_fit memory_shape named (opcode_by (cast_class op))) (IsSomeWith (IsInstr (Cast op from x to))) (typed space from x ++ (word space (codes "to") ++ register space to))
 conversion_behind named casts.Zext from x to r p s = attended_read (cast_read casts.Zext from x to r p s)
 conversion_behind named casts.Sext from x to r p s = attended_read (casting_read casts.Sext from x to r p s)
 conversion_behind named casts.Trunc from x to r p s = attended_read (cast_read casts.Trunc from x to r p s)
@@ -211,43 +211,43 @@ record IsSplit (i : Instr) : Type 0 where
   rest : List Piece
   is_word : IsWord (word_class i) text
   whole : (blank : List ℕ) → instruction blank i ≡ word blank text ++ rest
-  reads : (named : Bool) → Reads (behind slots_fit memory_shape named (opcode_by (word_class i))) (IsSomeWith (IsInstruction i)) rest
+  reads : (named : Bool) → Parses (behind slots_fit memory_shape named (opcode_by (word_class i))) (IsSomeWith (IsInstruction i)) rest
 
 split : (i : Instr) → InstructionReadable i → IsSplit i
-unfolding head_of word_head listed_head words_3 words_4 words_5 words_6 words_13
+unfolding kind_of word_kind listed_kind words_3 words_4 words_5 words_6 words_13
 split (Binary op fs w x y) h = record { text = opcode op; rest = _; is_word = opcode_word op; whole = λ blank. refl; reads = λ named. opcode_behind named op (binary_read w x y h.1 h.2 h.3 op fs h.0) }
-split (Icmp predicate reg x y) h = record { text = codes "icmp"; rest = _; is_word = a_word heads.Icmp _ _ refl; whole = λ blank. refl; reads = λ named. attended_read (icmp_read predicate reg x y h.0 h.1 h.2) }
+split (Icmp predicate reg x y) h = record { text = codes "icmp"; rest = _; is_word = a_word kinds.Icmp _ _ refl; whole = λ blank. refl; reads = λ named. attended_read (icmp_read predicate reg x y h.0 h.1 h.2) }
 split (Cast op from x to) h = record { text = conversion op; rest = _; is_word = conversion_word op; whole = λ blank. refl; reads = λ named. conversion_behind named op from x to h.0 h.1 h.2 }
-split (Select c x y) h = record { text = codes "select"; rest = _; is_word = a_word heads.Select _ _ refl; whole = λ blank. refl; reads = λ named. attended_read (select_read c x y h.0 h.1 h.2) }
-split (Freeze reg x) h = record { text = codes "freeze"; rest = _; is_word = a_word heads.Freeze _ _ refl; whole = λ blank. refl; reads = λ named. attended_read (freeze_read reg x h.0 h.1) }
-split (Alloca f n) h = record { text = codes "alloca"; rest = _; is_word = a_word heads.Alloca _ _ refl; whole = λ blank. refl; reads = λ named. kept_read (alloca_read f n (memory_shape_read space f h.0) h.1) }
-split (Load reg address n) h = record { text = codes "load"; rest = _; is_word = a_word heads.Load _ _ refl; whole = λ blank. refl; reads = λ named. kept_read (load_read reg address n h.0 h.1 h.2) }
-split (Store reg x address n) h = record { text = codes "store"; rest = _; is_word = a_word heads.Store _ _ refl; whole = λ blank. refl; reads = λ named. kept_read (store_read reg x address n h.0 h.1 h.2 h.3) }
-split (Address inbounds f base is) h = record { text = codes "getelementptr"; rest = _; is_word = a_word heads.GetElementPtr _ _ refl; whole = λ blank. refl; reads = λ named. kept_read (address_read inbounds f base is (memory_shape_read space f h.0) h.1 h.2) }
-split (Call r x as') h = record { text = codes "call"; rest = _; is_word = a_word heads.Call _ _ refl; whole = λ blank. refl; reads = λ named. calling_read named r x as' h }
+split (Select c x y) h = record { text = codes "select"; rest = _; is_word = a_word kinds.Select _ _ refl; whole = λ blank. refl; reads = λ named. attended_read (select_read c x y h.0 h.1 h.2) }
+split (Freeze reg x) h = record { text = codes "freeze"; rest = _; is_word = a_word kinds.Freeze _ _ refl; whole = λ blank. refl; reads = λ named. attended_read (freeze_read reg x h.0 h.1) }
+split (Alloca f n) h = record { text = codes "alloca"; rest = _; is_word = a_word kinds.Alloca _ _ refl; whole = λ blank. refl; reads = λ named. kept_read (alloca_read f n (memory_shape_read space f h.0) h.1) }
+split (Load reg address n) h = record { text = codes "load"; rest = _; is_word = a_word kinds.Load _ _ refl; whole = λ blank. refl; reads = λ named. kept_read (load_read reg address n h.0 h.1 h.2) }
+split (Store reg x address n) h = record { text = codes "store"; rest = _; is_word = a_word kinds.Store _ _ refl; whole = λ blank. refl; reads = λ named. kept_read (store_read reg x address n h.0 h.1 h.2 h.3) }
+split (Address inbounds f base is) h = record { text = codes "getelementptr"; rest = _; is_word = a_word kinds.GetElementPtr _ _ refl; whole = λ blank. refl; reads = λ named. kept_read (address_read inbounds f base is (memory_shape_read space f h.0) h.1 h.2) }
+split (Call r x as') h = record { text = codes "call"; rest = _; is_word = a_word kinds.Call _ _ refl; whole = λ blank. refl; reads = λ named. calling_read named r x as' h }
 split (Phi reg []) h = absurd h.1
-split (Phi reg (first ∷ is)) h = record { text = codes "phi"; rest = _; is_word = a_word heads.Phi _ _ refl; whole = λ blank. refl; reads = λ named. kept_read (phi_read reg first is h.0 h.1.0 h.1.1) }
+split (Phi reg (first ∷ is)) h = record { text = codes "phi"; rest = _; is_word = a_word kinds.Phi _ _ refl; whole = λ blank. refl; reads = λ named. kept_read (phi_read reg first is h.0 h.1.0 h.1.1) }
 
 -- ---- lines
 
-plain_line_read : (i : Instr) → IsSplit i → Reads (plain_line slots_fit memory_shape) (IsSomeWith (IsLine (record { local = None; instr = i }))) (instruction indent i)
+plain_line_read : (i : Instr) → IsSplit i → Parses (plain_line slots_fit memory_shape) (IsSomeWith (IsLine (record { local = None; instr = i }))) (instruction indent i)
 unfolding plain_line
 plain_line_read i s =
-    subst (λ (qs : List Piece). Reads (plain_line slots_fit memory_shape) (IsSomeWith (IsLine (record { local = None; instr = i }))) qs) (sym (s.whole indent))
-    (then (begun_read (word_class i) s.text s.is_word (stating i)) (λ b e. last (subst (λ (o : Opcode). Reads (behind slots_fit memory_shape false o) (IsSomeWith (IsInstruction i)) s.rest) (sym e) (s.reads false))
+    subst (λ (qs : List Piece). Parses (plain_line slots_fit memory_shape) (IsSomeWith (IsLine (record { local = None; instr = i }))) qs) (sym (s.whole indent))
+    (then (begun_read (word_class i) s.text s.is_word (stating i)) (λ b e. last (subst (λ (o : Opcode). Parses (behind slots_fit memory_shape false o) (IsSomeWith (IsInstruction i)) s.rest) (sym e) (s.reads false))
     (λ j p. nothing (_, ap (lined None b.line) p.1, (refl, p.2)))))
 
-named_line_read : (n : ℕ) (i : Instr) → IsSmall n → MayHaveName i → IsSplit i → Reads (named_line local slots_fit memory_shape) (IsSomeWith (IsLine (record { local = Some n; instr = i }))) (line_of (Some n) i)
+named_line_read : (n : ℕ) (i : Instr) → IsSmall n → MayHaveName i → IsSplit i → Parses (named_line local slots_fit memory_shape) (IsSomeWith (IsLine (record { local = Some n; instr = i }))) (line_of (Some n) i)
 unfolding named_line line_behind
 named_line_read n i small named s =
     then (local_read indent n small) (λ t p. then (equals_read space) (λ a u.
-    subst (λ (qs : List Piece). Reads (one_of GIVING opcode_of >>= λ o. behind slots_fit memory_shape true o >>= λ j. gives (lined (Some t) t.line j)) (IsSomeWith (IsLine (record { local = Some n; instr = i }))) qs) (sym (s.whole space))
+    subst (λ (qs : List Piece). Parses (one_of GIVING opcode_of >>= λ o. behind slots_fit memory_shape true o >>= λ j. gives (lined (Some t) t.line j)) (IsSomeWith (IsLine (record { local = Some n; instr = i }))) qs) (sym (s.whole space))
     (next _ (giving_read (word_class i) s.text s.is_word (giving i named)) (last (s.reads true) (λ j q. nothing (_, ap (lined (Some t) t.line) q.1, (p, q.2)))))))
 
-line_by : (name : Option ℕ) (i : Instr) → InstructionReadable i → ResultReadable i name → Reads (line local slots_fit memory_shape) (IsSomeWith (IsLine (record { local = name; instr = i }))) (line_of name i)
+line_by : (name : Option ℕ) (i : Instr) → InstructionReadable i → ResultReadable i name → Parses (line local slots_fit memory_shape) (IsSomeWith (IsLine (record { local = name; instr = i }))) (line_of name i)
 unfolding line
 line_by None i h r = right _ (plain_line_read i (split i h))
 line_by (Some n) i h r = left _ (named_line_read n i r.0 r.1 (split i h))
 
-pub line_read : (l : Line) → LineReadable l → Reads (line local slots_fit memory_shape) (IsSomeWith (IsLine l)) (line_of l.local l.instr)
+pub line_read : (l : Line) → LineReadable l → Parses (line local slots_fit memory_shape) (IsSomeWith (IsLine l)) (line_of l.local l.instr)
 line_read l h = line_by l.local l.instr h.0 h.1

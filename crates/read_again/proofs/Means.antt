@@ -2,7 +2,7 @@
 use Rattle.std.proofs.Common.{◌≡◌, ℕ, zero, suc, Bool, true, ◌⊎◌, inl, inr, List, [], ◌∷◌, ◌++◌, Option, Some, None, Result, Ok, sym, subst}
 use Rattle.std.specs.List.{AllByRecursion as Each, fold}
 use Rattle.std.specs.Prelude.{IfSome}
-use Rattle.ir_lex.specs.Heads.{number}
+use Rattle.ir_lex.specs.TokenKinds.{number}
 use Rattle.ir_lex.specs.Tok.{Tok}
 use Rattle.ir_read.specs.Alphabet.{contains}
 use Rattle.ir_read.specs.Chained.{Chain}
@@ -56,11 +56,11 @@ token_means {A} {E} {meaning} {P} f = record { of = of }
     of (t ∷ u ∷ ts) a s h = absurd h
 
 pub among_means : {A : Type 0} (refuse : ℕ → TokenFault) (classes : List ℕ) (value : Tok → A) {P : A → Type 0}
-    → ((t : Tok) → IsCut t → contains classes (number t.head) ≡ true → P (value t)) → Means (form.token (is_among tokens refuse classes value)) P
+    → ((t : Tok) → IsCut t → contains classes (number t.kind) ≡ true → P (value t)) → Means (form.token (is_among tokens refuse classes value)) P
 unfolding is_among
 among_means {A} refuse classes value {P} f =
     token_means (λ t a s h.
-    let yes = accepted (contains classes (number t.head)) (Ok (value t)) (refuse (number t.head)) a h in
+    let yes = accepted (contains classes (number t.kind)) (Ok (value t)) (refuse (number t.kind)) a h in
     let same : value t ≡ a = cc (yes.1) in subst P same (f t s yes.0))
 
 pub valued_means : {A : Type 0} (refuse : ℕ → TokenFault) (classes : List ℕ) {value : Tok → Option A} {P : A → Type 0}
@@ -68,15 +68,15 @@ pub valued_means : {A : Type 0} (refuse : ℕ → TokenFault) (classes : List �
 unfolding is_valued
 valued_means {A} refuse classes {value} {P} f =
     token_means (λ t a s h.
-    let yes = accepted (contains classes (number t.head)) (in_range (value t)) (refuse (number t.head)) a h in f t a s (valued (value t) a yes.1))
+    let yes = accepted (contains classes (number t.kind)) (in_range (value t)) (refuse (number t.kind)) a h in f t a s (valued (value t) a yes.1))
 
 -- a global's name, which stands for itself
-pub global_means : (refuse : ℕ → TokenFault) (classes : List ℕ) {P : Tok → Type 0} → ((t : Tok) → IsCut t → contains classes (number t.head) ≡ true → P t) → Means (form.token (is_valued tokens refuse classes global_named)) P
+pub global_means : (refuse : ℕ → TokenFault) (classes : List ℕ) {P : Tok → Type 0} → ((t : Tok) → IsCut t → contains classes (number t.kind) ≡ true → P t) → Means (form.token (is_valued tokens refuse classes global_named)) P
 unfolding is_valued
 global_means refuse classes {P} f =
     token_means (λ t a s h.
-    let yes = accepted (contains classes (number t.head)) (in_range (global_named t)) (refuse (number t.head)) a h in
-    subst P (global_is t.head t a (valued (global_named t) a yes.1)) (f t s yes.0))
+    let yes = accepted (contains classes (number t.kind)) (in_range (global_named t)) (refuse (number t.kind)) a h in
+    subst P (global_is t.kind t a (valued (global_named t) a yes.1)) (f t s yes.0))
 
 -- ---- lists
 

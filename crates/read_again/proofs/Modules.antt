@@ -7,7 +7,7 @@ use Rattle.ir_parse.specs.Modules.{FURTHER_PARAMETERS, whole_module}
 use Rattle.ir_lex.specs.Lexing.{AreTokens}
 use Rattle.ir_lex.specs.Quotes.{content}
 use Rattle.ir_lex.specs.Tok.{Tok}
-use Rattle.ir_lex.specs.declared.token.Kind.TheVariants as kinds
+use Rattle.ir_lex.specs.declared.token.TokenForm.TheVariants as forms
 use Rattle.ir_names.specs.Groups.{groups_of}
 use Rattle.ir_names.specs.Marks.{marks_of}
 use Rattle.ir_parse.specs.Stages.{module_in, module_with}
@@ -32,8 +32,8 @@ use Rattle.read_again.proofs.Quoted.{string_content}
 
 -- ---- target lines
 
-string_again : (text : List ℕ) (t : Tok) → AllBytes text → IsString text t → content t.kind t.text ≡ text
-string_again text t a i = ap (λ k. content k t.text) i.kind ∙ ap (content kinds.Str) i.text ∙ string_content text a
+string_again : (text : List ℕ) (t : Tok) → AllBytes text → IsString text t → content t.form t.text ≡ text
+string_again text t a i = ap (λ k. content k t.text) i.form ∙ ap (content forms.Str) i.text ∙ string_content text a
 
 layout_bytes : (text : List ℕ) → LayoutReadable text → AllBytes text
 layout_bytes [] h = tt

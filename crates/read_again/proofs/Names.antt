@@ -102,6 +102,6 @@ pub is_spelled : (name : List ℕ) (t : Tok) → IsName name → IsGlobal name t
 unfolding number_of has
 is_spelled name t n i =
     let x = name_text name n in
-    let bare : stripped t.kind t.text ≡ x.first ∷ x.others = ap (λ k. stripped k t.text) i.kind ∙ ap (drop 1) i.text ∙ x.whole in
+    let bare : stripped t.form t.text ≡ x.first ∷ x.others = ap (λ k. stripped k t.text) i.form ∙ ap (drop 1) i.text ∙ x.whole in
     ap (λ (cs : List ℕ). cond (is_numeral cs) (cond (nat_lt (decimal_of cs) (2 ^ 32)) (Some (decimal_of cs)) None) None) bare
     ∙ ap (λ (b : Bool). cond (b && list_all is_ascii_digit x.others) (cond (nat_lt (decimal_of (x.first ∷ x.others)) (2 ^ 32)) (Some (decimal_of (x.first ∷ x.others))) None) None) x.no_digit

@@ -4,9 +4,9 @@ use Rattle.std.specs.List.{AllByRecursion as Each}
 use Rattle.named_values.specs.Blocks.{as_phi, lines_behind, rest_of, body_of, body_in, block_of, block_in, behind_block, blocks_in, params_from, blocks_of, function_in}
 use Rattle.ir_names.specs.Bodies.{local_at, behind_line, lines_in, behind_lines, instr_in, end_in}
 use Rattle.ir_names.specs.Groups.{groups_of, is_noinline, is_optnone}
-use Rattle.ir_names.specs.Locals.{Known}
+use Rattle.ir_names.specs.Locals.{LocalTable}
 use Rattle.ir_names.specs.Numbering.{is_defined, locals_of}
-use Rattle.ir_names.specs.Settled.{◌>>=◌}
+use Rattle.ir_names.specs.Resolving.{◌>>=◌}
 use Rattle.ir_names.specs.Types.{Types}
 use Rattle.ir_names.specs.Variables.{variable_in}
 use Rattle.named_values.specs.declared.block.Body.{Body}
@@ -15,10 +15,10 @@ use Rattle.ir_names.specs.declared.groups.Groups.{Groups}
 use Rattle.ir_parse.specs.Reading.{Reads}
 use Rattle.ir_parse.specs.Values.{put, value_in, values_in}
 use Rattle.ir_read.specs.declared.raw.Block as raw_block
-use Rattle.ir_read.specs.declared.raw.Head.{Head}
+use Rattle.ir_read.specs.declared.raw.FunctionHeader.{FunctionHeader}
 use Rattle.ir_read.specs.declared.raw.Item.{Item}
 use Rattle.ir_read.specs.declared.raw.Item.TheVariants as items
-use Rattle.ir_read.specs.declared.raw.Line as raw_line
+use Rattle.ir_read.specs.declared.raw.WrittenLine as raw_line
 use Rattle.ir_read.specs.declared.raw.Param as raw_param
 use Rattle.ir_tree.specs.declared.block.Block.{Block}
 use Rattle.ir_tree.specs.declared.block.Terminator.{Terminator}
@@ -57,21 +57,21 @@ no_phi_first (l ∷ ls) = by (no_phi_first ls) (as_phi l) refl
 
 -- ---- lines
 
-module _ (types : Types) (known : Known) where
-  local_follows : (n : ℕ) (l : raw_line.Line) → ResultFollows n (local_at n l) × (past n (local_at n l) ≡ behind_line n l)
+module _ (types : Types) (known : LocalTable) where
+  local_follows : (n : ℕ) (l : raw_line.WrittenLine) → ResultFollows n (local_at n l) × (past n (local_at n l) ≡ behind_line n l)
   local_follows n l = by (is_defined l)
     where
       by : (b : Bool) → ResultFollows n (cond b (Some n) None) × (past n (cond b (Some n) None) ≡ cond b (n + 1) n)
       by true = (refl, refl)
       by false = (tt, refl)
 
-  abbrev LinesRight : ℕ → List raw_line.Line → List Line → Type 0
+  abbrev LinesRight : ℕ → List raw_line.WrittenLine → List Line → Type 0
   LinesRight n ls ts = LinesFollow n ts × (past_lines n ts ≡ behind_lines n ls)
 
-  abbrev read_line : ℕ → raw_line.Line → Instr → Line
+  abbrev read_line : ℕ → raw_line.WrittenLine → Instr → Line
   read_line n l i = record { local = local_at n l; instr = i }
 
-  lines_follow : (n : ℕ) (ls : List raw_line.Line) (ts : List Line) → lines_in types known n ls ≡ Ok ts → LinesRight n ls ts
+  lines_follow : (n : ℕ) (ls : List raw_line.WrittenLine) (ts : List Line) → lines_in types known n ls ≡ Ok ts → LinesRight n ls ts
   lines_follow n [] ts e = subst (LinesRight n []) (one e) (tt, refl)
   lines_follow n (l ∷ ls) ts e =
       let i = took (instr_in types known l.instr) (λ i. lines_in types known (behind_line n l) ls >>= λ more. Ok (read_line n l i ∷ more)) ts e in
@@ -121,7 +121,7 @@ module _ (types : Types) (known : Known) where
 abbrev pub FunctionRight : Function → Type 0
 FunctionRight f = IsNumbered f × Each (λ (t : Block). FirstIsNoPhi t.lines) f.blocks
 
-pub function_numbered : (types : Types) (head : Head) (blocks : List raw_block.Block) (noinline optnone : Bool) (f : Function) → function_in types head blocks noinline optnone ≡ Ok f → FunctionRight f
+pub function_numbered : (types : Types) (head : FunctionHeader) (blocks : List raw_block.Block) (noinline optnone : Bool) (f : Function) → function_in types head blocks noinline optnone ≡ Ok f → FunctionRight f
 unfolding function_in
 function_numbered types head blocks noinline optnone f e =
     let bs = took (blocks_of types head.params blocks) (λ bs. Ok (read_function head noinline optnone bs)) f e in
@@ -141,7 +141,7 @@ module _ (types : Types) (groups : Groups) where
   no_value : (o : Option GlobalValue) → ◌≡◌ {A = Result (Option GlobalValue) Fault} (Ok None) (Ok o) → IfThere ValueRight o
   no_value o e = subst (IfThere ValueRight) (one e) tt
 
-  function_value : (head : Head) (blocks : List raw_block.Block) (noinline optnone : Bool) (o : Option GlobalValue) → function_in types head blocks noinline optnone >>= (λ f. Ok (Some (globals.Function f))) ≡ Ok o → IfThere ValueRight o
+  function_value : (head : FunctionHeader) (blocks : List raw_block.Block) (noinline optnone : Bool) (o : Option GlobalValue) → function_in types head blocks noinline optnone >>= (λ f. Ok (Some (globals.Function f))) ≡ Ok o → IfThere ValueRight o
   function_value head blocks noinline optnone o e =
       let f = took (function_in types head blocks noinline optnone) (λ f. Ok (Some (globals.Function f))) o e in
       subst (IfThere ValueRight) (one f.2) (function_numbered types head blocks noinline optnone f.0 f.1)

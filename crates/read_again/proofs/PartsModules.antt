@@ -88,7 +88,7 @@ entry_leads at line (p ∷ ps) bs r e =
           starts = e ∙ skip_piece line p ps (10 ∷ bs) r;
           good = r.0.good;
           fits = r.0.fits;
-          head = sym (r.0.settled (bytes_of ps ++ (10 ∷ bs)));
+          kind = sym (r.0.settled (bytes_of ps ++ (10 ∷ bs)));
           line = refl;
           ends = sym (ends_here end ps bs r.1);
         },

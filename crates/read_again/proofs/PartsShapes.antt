@@ -1,11 +1,11 @@
 -- Printed shapes are read in the room that they have (LangRef, "Structure Type", "Array Type").
 use Rattle.std.proofs.Common.{◌≡◌, ℕ, zero, suc, ◌<◌, ◌^◌, Bool, inl, true, false, cond, ◌&&◌, nat_eq, nat_lt, Some, None, Result, Ok, List, [], ◌∷◌, ◌++◌, decimal, drop, refl, sym, ap, subst, ◌∙◌}
-use Rattle.ir_lex.specs.Heads.{number, head_of, mark_head}
+use Rattle.ir_lex.specs.TokenKinds.{number, kind_of, mark_kind}
 use Rattle.ir_lex.specs.Pieces.{Piece}
 use Rattle.ir_lex.specs.Rows.{begins}
 use Rattle.ir_lex.specs.Tok.{Tok}
-use Rattle.ir_lex.specs.declared.head.Head.TheVariants as heads
-use Rattle.ir_lex.specs.declared.token.Kind.TheVariants as kinds
+use Rattle.ir_lex.specs.declared.token_kind.TokenKind.TheVariants as kinds
+use Rattle.ir_lex.specs.declared.token.TokenForm.TheVariants as forms
 use Rattle.ir_print.specs.Tokens.{tight, space, mark, width, natural, word}
 use Rattle.ir_print.specs.Types as printed
 use Rattle.ir_read.specs.Classes.{refusal, one_of}
@@ -29,7 +29,7 @@ use Rattle.ir_read.specs.Alphabet.{contains}
 use Rattle.ir_read.specs.Chained.{Chain}
 use Rattle.ir_read.specs.declared.fault.TokenFault.{TokenFault}
 use Rattle.read_again.specs.PartsPrinted.{written_shape, written_parts}
-use Rattle.read_again.specs.Reads.{Reads, Any}
+use Rattle.read_again.specs.Reads.{Parses, Any}
 use Rattle.read_again.proofs.Composed.{then, next, last, nothing, left, right, chain_ends, chain_goes_on}
 use Rattle.read_again.proofs.Numerals.{decimal_nonempty, no_minus, unsigned_again}
 use Rattle.read_again.proofs.Tokens.{IsToken, class_of, single, piece_read, by_class, by_classes, by_value}
@@ -39,8 +39,8 @@ use Rattle.read_again.proofs.Words.{comma_read, times_read, close_bracket_read, 
 -- ---- scalars
 
 -- a scalar of this class that has room
-leaf_means : (room : Room) (t : Tok) (k : Result Typed TokenFault) → contains SCALAR (number t.head) ≡ true → has_room room t ≡ true → cond (contains SCALAR (number t.head) && has_room room t) (Ok (scalar_typed t)) k ≡ Ok (scalar_typed t)
-leaf_means room t k e h = by_test (contains SCALAR (number t.head)) (has_room room t) e h
+leaf_means : (room : Room) (t : Tok) (k : Result Typed TokenFault) → contains SCALAR (number t.kind) ≡ true → has_room room t ≡ true → cond (contains SCALAR (number t.kind) && has_room room t) (Ok (scalar_typed t)) k ≡ Ok (scalar_typed t)
+leaf_means room t k e h = by_test (contains SCALAR (number t.kind)) (has_room room t) e h
   where
     by_test : (a b : Bool) → a ≡ true → b ≡ true → cond (a && b) (Ok (scalar_typed t)) k ≡ Ok (scalar_typed t)
     by_test true true e h = refl
@@ -50,39 +50,39 @@ leaf_means room t k e h = by_test (contains SCALAR (number t.head)) (has_room ro
 by_pointer : {A : Type 0} (b c : Bool) (x y : A) → b ≡ c → cond b x y ≡ cond c x y
 by_pointer b c x y e = ap (λ (d : Bool). cond d x y) e
 
-no_pointer : (w : ℕ) → IsStored w → (t : Tok) → IsToken kinds.Word (width_text w) t → is_pointer t ≡ false
-no_pointer w s t i = ap (λ (n : ℕ). nat_eq n (number heads.Ptr)) (ap number i.head ∙ stored_class w s)
+no_pointer : (w : ℕ) → IsStored w → (t : Tok) → IsToken forms.Word (width_text w) t → is_pointer t ≡ false
+no_pointer w s t i = ap (λ (n : ℕ). nat_eq n (number kinds.Ptr)) (ap number i.kind ∙ stored_class w s)
 
-a_pointer : (t : Tok) → IsToken kinds.Word pointer_text t → is_pointer t ≡ true
-a_pointer t i = ap (λ (n : ℕ). nat_eq n (number heads.Ptr)) (ap number i.head ∙ pointer_class)
+a_pointer : (t : Tok) → IsToken forms.Word pointer_text t → is_pointer t ≡ true
+a_pointer t i = ap (λ (n : ℕ). nat_eq n (number kinds.Ptr)) (ap number i.kind ∙ pointer_class)
 
-int_leaf : (room : Room) (blank : List ℕ) (w : ℕ) → IsStored w → nat_lt 1 (room_for room (align_by w)) ≡ true → Reads (leaf room) (λ t. t.shape ≡ written.int w) (width blank w)
+int_leaf : (room : Room) (blank : List ℕ) (w : ℕ) → IsStored w → nat_lt 1 (room_for room (align_by w)) ≡ true → Parses (leaf room) (λ t. t.shape ≡ written.int w) (width blank w)
 unfolding is_leaf
-int_leaf room blank w s h = single blank kinds.Word _ _ (λ t i.
+int_leaf room blank w s h = single blank forms.Word _ _ (λ t i.
     let e : operands.width t ≡ w = width_again w (stored_width w s) t i in
     let a : scalar_align t ≡ align_by w = by_pointer (is_pointer t) false Eight (align_by (operands.width t)) (no_pointer w s t i) ∙ ap align_by e in (
       scalar_typed t,
-      leaf_means room t _ (ap (contains SCALAR) (ap number i.head ∙ stored_class w s)) (ap (λ (x : Align). nat_lt 1 (room_for room x)) a ∙ h),
+      leaf_means room t _ (ap (contains SCALAR) (ap number i.kind ∙ stored_class w s)) (ap (λ (x : Align). nat_lt 1 (room_for room x)) a ∙ h),
       by_pointer (is_pointer t) false written.pointer (written.int (operands.width t)) (no_pointer w s t i) ∙ ap written.int e,
     ))
 
-pointer_leaf : (room : Room) (blank : List ℕ) → nat_lt 1 (room_for room Eight) ≡ true → Reads (leaf room) (λ t. t.shape ≡ written.pointer) (word blank pointer_text)
+pointer_leaf : (room : Room) (blank : List ℕ) → nat_lt 1 (room_for room Eight) ≡ true → Parses (leaf room) (λ t. t.shape ≡ written.pointer) (word blank pointer_text)
 unfolding is_leaf
-pointer_leaf room blank h = single blank kinds.Word _ _ (λ t i.
+pointer_leaf room blank h = single blank forms.Word _ _ (λ t i.
     let a : scalar_align t ≡ Eight = by_pointer (is_pointer t) true Eight (align_by (operands.width t)) (a_pointer t i) in (
       scalar_typed t,
-      leaf_means room t _ (ap (contains SCALAR) (ap number i.head ∙ pointer_class)) (ap (λ (x : Align). nat_lt 1 (room_for room x)) a ∙ h),
+      leaf_means room t _ (ap (contains SCALAR) (ap number i.kind ∙ pointer_class)) (ap (λ (x : Align). nat_lt 1 (room_for room x)) a ∙ h),
       by_pointer (is_pointer t) true written.pointer (written.int (operands.width t)) (a_pointer t i),
     ))
 
 -- a scalar may stand at any depth
-at_depth : {P : Typed → Type 0} {ps : List Piece} (depth : ℕ) (room : Room) → Reads (leaf room) P ps → Reads (read.shape depth room) P ps
+at_depth : {P : Typed → Type 0} {ps : List Piece} (depth : ℕ) (room : Room) → Parses (leaf room) P ps → Parses (read.shape depth room) P ps
 unfolding shape_over
 at_depth zero room r = r
 at_depth (suc depth) room r = right _ (right _ (right _ r))
 
 -- i8 of a constant address
-pub bytes_read : Reads memory_shape (λ t. t.shape ≡ written.int 8) (width tight 8)
+pub bytes_read : Parses memory_shape (λ t. t.shape ≡ written.int 8) (width tight 8)
 unfolding memory_shape
 bytes_read = at_depth 32 whole (int_leaf whole tight 8 (inl refl) refl)
 
@@ -96,30 +96,30 @@ counted_again n lt = by_minus (begins 45 (decimal n)) (no_minus n)
     by_minus true e = absurd cc
     by_minus false e = unsigned_again 64 n lt lt
 
-number_in : (text : List ℕ) → contains NUMBER (class_of kinds.Number text) ≡ true
-unfolding head_of
+number_in : (text : List ℕ) → contains NUMBER (class_of forms.Number text) ≡ true
+unfolding kind_of
 number_in text = refl
 
-pub count_read : (blank : List ℕ) (n : ℕ) → n < 2 ^ 64 → Reads count (λ m. m ≡ n) (natural blank n)
-count_read blank n lt = piece_read blank kinds.Number (decimal n) (decimal_nonempty n) (by_value refusal NUMBER (count_of 64) kinds.Number (decimal n) (number_in (decimal n)) (λ t i. (n, ap (counted 64) i.text ∙ counted_again n lt, refl)))
+pub count_read : (blank : List ℕ) (n : ℕ) → n < 2 ^ 64 → Parses count (λ m. m ≡ n) (natural blank n)
+count_read blank n lt = piece_read blank forms.Number (decimal n) (decimal_nonempty n) (by_value refusal NUMBER (count_of 64) forms.Number (decimal n) (number_in (decimal n)) (λ t i. (n, ap (counted 64) i.text ∙ counted_again n lt, refl)))
 
 -- ---- marks
 
-open_bracket_line : (blank : List ℕ) → Reads (one_of OPEN_BRACKET line_of) Any (mark blank 91)
-unfolding head_of mark_head
-open_bracket_line blank = single blank kinds.Other 91 [] (by_classes refusal OPEN_BRACKET line_of kinds.Other (91 ∷ []) refl (λ t i. tt))
+open_bracket_line : (blank : List ℕ) → Parses (one_of OPEN_BRACKET line_of) Any (mark blank 91)
+unfolding kind_of mark_kind
+open_bracket_line blank = single blank forms.Other 91 [] (by_classes refusal OPEN_BRACKET line_of forms.Other (91 ∷ []) refl (λ t i. tt))
 
-open_brace_line : (blank : List ℕ) → Reads (one_of OPEN_BRACE line_of) Any (mark blank 123)
-unfolding head_of mark_head
-open_brace_line blank = single blank kinds.Other 123 [] (by_classes refusal OPEN_BRACE line_of kinds.Other (123 ∷ []) refl (λ t i. tt))
+open_brace_line : (blank : List ℕ) → Parses (one_of OPEN_BRACE line_of) Any (mark blank 123)
+unfolding kind_of mark_kind
+open_brace_line blank = single blank forms.Other 123 [] (by_classes refusal OPEN_BRACE line_of forms.Other (123 ∷ []) refl (λ t i. tt))
 
-open_angle_line : (blank : List ℕ) → Reads (one_of OPEN_ANGLE line_of) Any (mark blank 60)
-unfolding head_of mark_head
-open_angle_line blank = single blank kinds.Other 60 [] (by_classes refusal OPEN_ANGLE line_of kinds.Other (60 ∷ []) refl (λ t i. tt))
+open_angle_line : (blank : List ℕ) → Parses (one_of OPEN_ANGLE line_of) Any (mark blank 60)
+unfolding kind_of mark_kind
+open_angle_line blank = single blank forms.Other 60 [] (by_classes refusal OPEN_ANGLE line_of forms.Other (60 ∷ []) refl (λ t i. tt))
 
-brace_read : Reads brace_behind_angle Any (mark tight 123)
-unfolding head_of mark_head
-brace_read = single tight kinds.Other 123 [] (by_class angle_refusal heads.OpenBrace kinds.Other (123 ∷ []) refl)
+brace_read : Parses brace_behind_angle Any (mark tight 123)
+unfolding kind_of mark_kind
+brace_read = single tight forms.Other 123 [] (by_class angle_refusal kinds.OpenBrace forms.Other (123 ∷ []) refl)
 
 -- ---- shapes
 
@@ -145,27 +145,27 @@ AreParts fs ws = parts_of ws ≡ written_parts fs
 mutual
   unfolding shape_over array_of elements structure_of packed_of packed_behind more_members read.members read.further
 
-  pub shape_read : (blank : List ℕ) (f : Form) (depth : ℕ) (room : Room) → HasRoom f depth room → Reads (read.shape depth room) (IsShape f) (printed.shape blank f)
+  pub shape_read : (blank : List ℕ) (f : Form) (depth : ℕ) (room : Room) → HasRoom f depth room → Parses (read.shape depth room) (IsShape f) (printed.shape blank f)
   shape_read blank (int w) depth room h = at_depth depth room (int_leaf room blank w h.0 h.1)
   shape_read blank pointer depth room h = at_depth depth room (pointer_leaf room blank h)
   shape_read blank (array n of) depth room h =
-      subst (λ (d : ℕ). Reads (read.shape d room) (IsShape (array n of)) (printed.shape blank (array n of))) (sym h.1) (left _ (then (open_bracket_line blank) (λ line u.
+      subst (λ (d : ℕ). Parses (read.shape d room) (IsShape (array n of)) (printed.shape blank (array n of))) (sym h.1) (left _ (then (open_bracket_line blank) (λ line u.
       next _ (count_read tight n h.2) (then (times_read space) (λ a v. then (shape_read space of h.0 (shared n room) h.3) (λ e p. last (close_bracket_read tight) (λ b w. nothing (ap (written.array n) p))))))))
   shape_read blank (structure false parts) depth room h =
-      subst (λ (d : ℕ). Reads (read.shape d room) (IsShape (structure false parts)) (printed.shape blank (structure false parts))) (sym h.1) (right _ (left _ (then (open_brace_line blank) (λ line u.
+      subst (λ (d : ℕ). Parses (read.shape d room) (IsShape (structure false parts)) (printed.shape blank (structure false parts))) (sym h.1) (right _ (left _ (then (open_brace_line blank) (λ line u.
       last (members_read false parts h.0 room h.2) (λ ws p. nothing (ap (written.structure false) p))))))
   shape_read blank (structure true parts) depth room h =
-      subst (λ (d : ℕ). Reads (read.shape d room) (IsShape (structure true parts)) (printed.shape blank (structure true parts))) (sym h.1) (right _ (right _ (left _ (then (open_angle_line blank) (λ line u.
+      subst (λ (d : ℕ). Parses (read.shape d room) (IsShape (structure true parts)) (printed.shape blank (structure true parts))) (sym h.1) (right _ (right _ (left _ (then (open_angle_line blank) (λ line u.
       then brace_read (λ a v. then (members_read true parts h.0 room h.2) (λ ws p. last (close_angle_read tight) (λ b w. nothing (ap (written.structure true) p)))))))))
 
-  pub members_read : (packed : Bool) (fs : Forms) (depth : ℕ) (room : Room) → PartsHaveRoom packed fs depth room no_bytes → Reads (read.members packed (λ s. read.shape depth (left_room packed room s))) (AreParts fs) (printed.members fs)
+  pub members_read : (packed : Bool) (fs : Forms) (depth : ℕ) (room : Room) → PartsHaveRoom packed fs depth room no_bytes → Parses (read.members packed (λ s. read.shape depth (left_room packed room s))) (AreParts fs) (printed.members fs)
   members_read packed no_parts depth room h = left _ (last (close_brace_read tight) (λ a u. nothing refl))
   members_read packed (part f fs) depth room h =
       right _ (then (shape_read space f depth (left_room packed room no_bytes) h.0) (λ first p.
-      subst (λ (w : Written). Reads (more_members packed (λ s. read.shape depth (left_room packed room s)) w) (AreParts (part f fs)) (printed.further_members fs ++ mark space 125)) (sym p)
+      subst (λ (w : Written). Parses (more_members packed (λ s. read.shape depth (left_room packed room s)) w) (AreParts (part f fs)) (printed.further_members fs ++ mark space 125)) (sym p)
       (then (further_read packed fs depth room (grown packed no_bytes (extent_of (written_shape f))) h.1) (λ more q. last (close_brace_read space) (λ a u. nothing (ap (written.part (written_shape f)) q))))))
 
-  pub further_read : (packed : Bool) (fs : Forms) (depth : ℕ) (room : Room) (s : Extent) → PartsHaveRoom packed fs depth room s → Reads (Chain anywhere (read.further packed (λ s. read.shape depth (left_room packed room s))) s) (AreParts fs) (printed.further_members fs)
+  pub further_read : (packed : Bool) (fs : Forms) (depth : ℕ) (room : Room) (s : Extent) → PartsHaveRoom packed fs depth room s → Parses (Chain anywhere (read.further packed (λ s. read.shape depth (left_room packed room s))) s) (AreParts fs) (printed.further_members fs)
   further_read packed no_parts depth room s h = chain_ends anywhere (read.further packed (λ s. read.shape depth (left_room packed room s))) s refl refl
   further_read packed (part f fs) depth room s h =
       chain_goes_on anywhere (read.further packed (λ s. read.shape depth (left_room packed room s))) s (grown packed s (extent_of (written_shape f))) {P = λ w. w ≡ written_shape f}

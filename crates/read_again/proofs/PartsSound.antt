@@ -3,7 +3,7 @@
 use Rattle.std.proofs.Common.{◌≡◌, inr, ℕ, Some, None, List, [], ◌∷◌, ◌++◌, map, sym, ap, ◌∙◌}
 use Rattle.std.specs.List.{AllByRecursion as Each}
 use Rattle.std.proofs.lemmas.List.Elements.{recursion_from_All}
-use Rattle.ir_tree.specs.Flow.{targets}
+use Rattle.ir_tree.specs.Flow.{successors}
 use Rattle.ir_tree.specs.Formed.{ArgumentFormed, CaseFormed, InstrFormed, ItemFormed}
 use Rattle.ir_tree.specs.Items.{Item, phi_item, line_item, end_item, operands, typed, reads, phi_reads, taken_as, end_reads}
 use Rattle.ir_tree.specs.Rules.{HasType, CaseHas, EndTypes, Keeps, KindTypes}
@@ -87,7 +87,7 @@ cases_readable (c ∷ cs) h t s = (
   cases_readable cs h.1 t.1 s.1,
 )
 
-terminator_readable : (f : Function) (b : ℕ) (t : Terminator) → ItemFormed f (end_item b t) → ItemTyped (end_item b t) → Each IsSmall (targets t) → Each ArgumentReadable (end_reads t) → TerminatorReadable t
+terminator_readable : (f : Function) (b : ℕ) (t : Terminator) → ItemFormed f (end_item b t) → ItemTyped (end_item b t) → Each IsSmall (successors t) → Each ArgumentReadable (end_reads t) → TerminatorReadable t
 terminator_readable f b (Return None) h k s r = tt
 terminator_readable f b (Return (Some a)) h k s r = r.0
 terminator_readable f b (Jump n) h k s r = s.0
@@ -99,7 +99,7 @@ terminator_readable f b Unreachable h k s r = tt
 pub typed_readable : (f : Function) (item : Item) → ItemFormed f item → ItemTyped item → ItemWritable item → ItemReadable item
 typed_readable f (phi_item b p) h k w = (h.kind, some_readable p.reg p.incoming (all_readable f (phi_item b p) h k w) w.kind)
 typed_readable f (line_item b n l) h k w = instr_readable l.instr h.kind.0 w.kind (all_readable f (line_item b n l) h k w)
-typed_readable f (end_item b t) h k w = terminator_readable f b t h k (recursion_from_All IsSmall (targets t) w.kind) (all_readable f (end_item b t) h k w)
+typed_readable f (end_item b t) h k w = terminator_readable f b t h k (recursion_from_All IsSmall (successors t) w.kind) (all_readable f (end_item b t) h k w)
 
 -- ---- the rule of types
 

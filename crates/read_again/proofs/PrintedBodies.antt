@@ -7,7 +7,7 @@ use Rattle.ir_bodies.specs.Successive.{Successive}
 use Rattle.ir_lex.specs.Tok.{Tok}
 use Rattle.ir_read.specs.Operands.{local}
 use Rattle.ir_read.specs.declared.raw.Block.{Block}
-use Rattle.ir_read.specs.declared.raw.Line.{Line}
+use Rattle.ir_read.specs.declared.raw.WrittenLine.{WrittenLine}
 use Rattle.ir_read.specs.Forms as form
 use Rattle.ir_read.specs.Forms.{Form}
 use Rattle.read_again.proofs.CutInstructions.{each_left, each_right}
@@ -27,7 +27,7 @@ many_few {A} {one} room = record { of = λ ts as' s h. of room ts as' h }
     of zero ts (a ∷ more) h = absurd h
     of (suc room) ts (a ∷ more) h = let rest : length more ≤ room = of room h.1 more h.4 in omega (arith, rest)
 
-kept_few : (front : List Line) (all : List (Option Line)) → length (fold keep front all) ≤ length front + length all
+kept_few : (front : List WrittenLine) (all : List (Option WrittenLine)) → length (fold keep front all) ≤ length front + length all
 kept_few front [] = omega arith
 kept_few front (None ∷ all) = let rest : length (fold keep front all) ≤ length front + length all = kept_few front all in omega (arith, rest)
 kept_few front (Some l ∷ all) =
@@ -39,7 +39,7 @@ both_mean p q = record { of = λ ts a s h. (p.of ts a s h, q.of ts a s h) }
 -- ---- bodies
 
 -- the lines of one, and how many more there may be
-abbrev LinesLeft : ℕ → List Line × ℕ → Type 0
+abbrev LinesLeft : ℕ → List WrittenLine × ℕ → Type 0
 LinesLeft room x = Each LineSpelled x.0 × (length x.0 + x.1 ≤ room)
 
 lines_left : (room : ℕ) → Means (lines room) (LinesLeft room)

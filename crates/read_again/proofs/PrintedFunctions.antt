@@ -12,7 +12,7 @@ use Rattle.ir_names.specs.declared.locals.Sort.{Sort}
 use Rattle.ir_names.specs.declared.locals.Sort.TheVariants.{Value}
 use Rattle.ir_lex.specs.Tok.{Tok}
 use Rattle.ir_read.specs.declared.raw.Block as raw_block
-use Rattle.ir_read.specs.declared.raw.Head.{Head}
+use Rattle.ir_read.specs.declared.raw.FunctionHeader.{FunctionHeader}
 use Rattle.ir_read.specs.declared.raw.Param as raw_param
 use Rattle.ir_tree.specs.Formed.{DeclarationFormed}
 use Rattle.ir_tree.specs.declared.block.Block as tree_block
@@ -68,7 +68,7 @@ said_once groups says named none = ap (λ (ts : List Tok). says || any_of groups
 -- ---- whole functions
 
 -- a function is its parts
-made : (types : Types) (f : Function) (h : Head) (blocks : List raw_block.Block) (noinline optnone : Bool) → blocks_of types h.params blocks ≡ Ok f.blocks → symbol_of h.name ≡ f.symbol → h.linkage ≡ f.linkage → h.result ≡ f.result → params_from 0 h.params ≡ f.params → noinline ≡ f.noinline → optnone ≡ f.optnone
+made : (types : Types) (f : Function) (h : FunctionHeader) (blocks : List raw_block.Block) (noinline optnone : Bool) → blocks_of types h.params blocks ≡ Ok f.blocks → symbol_of h.name ≡ f.symbol → h.linkage ≡ f.linkage → h.result ≡ f.result → params_from 0 h.params ≡ f.params → noinline ≡ f.noinline → optnone ≡ f.optnone
     → function_in types h blocks noinline optnone ≡ Ok f
 unfolding function_in
 made types f h blocks noinline optnone b s l r p n o =
@@ -102,7 +102,7 @@ body_again types room f params blocks h k p b =
     (blocks_again types (sorts f) (length params) f.blocks blocks readable k.blocks
     (subst (λ (n : ℕ). BlocksFollow n f.blocks) next k.numbered.1) b)
 
-pub definition_again : (types : Types) (groups : Groups) (room : ℕ) (f : Function) (h : Head) (blocks : List raw_block.Block) → DefinitionReadable room f → FunctionKnown f → IsDefined f h → AreBlocks f.blocks blocks → function_in types h blocks (is_noinline groups h) (is_optnone groups h) ≡ Ok f
+pub definition_again : (types : Types) (groups : Groups) (room : ℕ) (f : Function) (h : FunctionHeader) (blocks : List raw_block.Block) → DefinitionReadable room f → FunctionKnown f → IsDefined f h → AreBlocks f.blocks blocks → function_in types h blocks (is_noinline groups h) (is_optnone groups h) ≡ Ok f
 definition_again types groups room f h blocks r k d b =
     made types f h blocks (is_noinline groups h) (is_optnone groups h) (body_again types room f h.params blocks r k d.params b) (symbol_again f.symbol h.name k.home r.head.name d.name) d.linkage d.result
     (params_again IsParam (λ p q i. i.0) 0 f.params h.params k.numbered.0 d.params)
@@ -123,7 +123,7 @@ no_blocks : (types : Types) (ps : List Param) (rs : List raw_param.Param) → Pa
 unfolding locals_of
 no_blocks types ps rs p = bound _ (bound (λ k. with_blocks k []) (types_known [] ps rs p) refl) refl
 
-pub declaration_again : (types : Types) (groups : Groups) (room : ℕ) (f : Function) (h : Head) → f.blocks ≡ [] → DeclarationFormed f → HeadReadable room f → FunctionKnown f → IsDeclared f h → function_in types h [] (is_noinline groups h) (is_optnone groups h) ≡ Ok f
+pub declaration_again : (types : Types) (groups : Groups) (room : ℕ) (f : Function) (h : FunctionHeader) → f.blocks ≡ [] → DeclarationFormed f → HeadReadable room f → FunctionKnown f → IsDeclared f h → function_in types h [] (is_noinline groups h) (is_optnone groups h) ≡ Ok f
 declaration_again types groups room f h none formed r k d =
     made types f h [] (is_noinline groups h) (is_optnone groups h) (no_blocks types f.params h.params d.params ∙ ap (λ (bs : List tree_block.Block). Ok bs) (sym none)) (symbol_again f.symbol h.name k.home r.name d.name) (d.linkage ∙ sym formed.0) d.result
     (params_again IsType (λ p q i. i.0) 0 f.params h.params k.numbered.0 d.params)

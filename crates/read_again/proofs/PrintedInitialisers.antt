@@ -5,10 +5,10 @@ use Rattle.ir_globals.specs.Initialisers as read
 use Rattle.ir_globals.specs.Initialisers.{BYTES, scalar_of, array_begin, structure_begin, packed_begin, aggregate_begin, beginning, aggregate_of, closing_refusal, brace, Spot, entered, part, begun, closed, piece, outermost, is_none, initialiser}
 use Rattle.ir_globals.specs.declared.initialisers.Aggregate.{Aggregate}
 use Rattle.ir_globals.specs.declared.initialisers.Aggregate.TheVariants as aggregates
-use Rattle.ir_lex.specs.Heads.{number, head_of, mark_head, word_head, listed_head, words_15}
+use Rattle.ir_lex.specs.TokenKinds.{number, kind_of, mark_kind, word_kind, listed_kind, words_15}
 use Rattle.ir_lex.specs.Pieces.{Piece}
-use Rattle.ir_lex.specs.declared.head.Head.TheVariants as heads
-use Rattle.ir_lex.specs.declared.token.Kind.TheVariants as kinds
+use Rattle.ir_lex.specs.declared.token_kind.TokenKind.TheVariants as kinds
+use Rattle.ir_lex.specs.declared.token.TokenForm.TheVariants as forms
 use Rattle.ir_print.specs.Operands.{operand}
 use Rattle.ir_print.specs.Tokens.{tight, space, mark, word, byte_string, closed as closed_text}
 use Rattle.ir_print.specs.Variables as printed
@@ -34,7 +34,7 @@ use Rattle.read_again.specs.VariablesReadable.{InitialReadable, InitialsReadable
 use Rattle.read_again.proofs.Constants.{constant_read}
 use Rattle.read_again.specs.PartsPrinted.{Paired, written_shape}
 use Rattle.read_again.specs.PartsReadable.{ShapeReadable}
-use Rattle.read_again.specs.Reads.{Reads, Any}
+use Rattle.read_again.specs.Reads.{Parses, Any}
 use Rattle.read_again.proofs.Composed.{then, next, last, nothing, known_as, left, right, chain_ends, chain_goes_on}
 use Rattle.read_again.proofs.Rooms.{memory_shape_read}
 use Rattle.read_again.proofs.Tokens.{single, by_class, by_classes, the_read}
@@ -61,31 +61,31 @@ begin_pieces (members packed parts) = opening (level_of packed)
 abbrev Begins : Initial → raw_head.InitHead → Type 0
 Begins v h = IsInitHead (tree_head v) h × (aggregate_of h ≡ begins v)
 
-zeros_read : Reads read.zeros (λ h. h ≡ rh.Zeros) (word space (codes "zeroinitializer"))
-unfolding read.zeros head_of word_head listed_head words_15
-zeros_read = last (the_read heads.ZeroInitializer space kinds.Word _ _ refl) (λ a u. nothing refl)
+zeros_read : Parses read.zeros (λ h. h ≡ rh.Zeros) (word space (codes "zeroinitializer"))
+unfolding read.zeros kind_of word_kind listed_kind words_15
+zeros_read = last (the_read kinds.ZeroInitializer space forms.Word _ _ refl) (λ a u. nothing refl)
 
-bytes_class : (text : List ℕ) → number (head_of kinds.CStr text []) ≡ number heads.CStr
-unfolding head_of
+bytes_class : (text : List ℕ) → number (kind_of forms.CStr text []) ≡ number kinds.CStr
+unfolding kind_of
 bytes_class text = refl
 
-bytes_read : (text : List ℕ) → Reads read.bytes (Begins (bytes text)) (byte_string space text)
-unfolding read.bytes head_of
-bytes_read text = single space kinds.CStr _ _ (by_classes refusal BYTES (λ t. rh.Bytes t) kinds.CStr (99 ∷ 34 ∷ closed_text text) refl (λ t i. (record { kind = i.kind; text = i.text }, refl)))
+bytes_read : (text : List ℕ) → Parses read.bytes (Begins (bytes text)) (byte_string space text)
+unfolding read.bytes kind_of
+bytes_read text = single space forms.CStr _ _ (by_classes refusal BYTES (λ t. rh.Bytes t) forms.CStr (99 ∷ 34 ∷ closed_text text) refl (λ t i. (record { form = i.form; text = i.text }, refl)))
 
-open_angle_read : Reads (the heads.OpenAngle) Any (mark space 60)
-unfolding head_of mark_head
-open_angle_read = the_read heads.OpenAngle space kinds.Other 60 [] refl
+open_angle_read : Parses (the kinds.OpenAngle) Any (mark space 60)
+unfolding kind_of mark_kind
+open_angle_read = the_read kinds.OpenAngle space forms.Other 60 [] refl
 
-brace_read : Reads brace_behind_angle Any (mark tight 123)
-unfolding head_of mark_head
-brace_read = single tight kinds.Other 123 [] (by_class angle_refusal heads.OpenBrace kinds.Other (123 ∷ []) refl)
+brace_read : Parses brace_behind_angle Any (mark tight 123)
+unfolding kind_of mark_kind
+brace_read = single tight forms.Other 123 [] (by_class angle_refusal kinds.OpenBrace forms.Other (123 ∷ []) refl)
 
-array_read : (vs : Initials) → Reads aggregate_begin (Begins (elements vs)) (opening levels.Array)
+array_read : (vs : Initials) → Parses aggregate_begin (Begins (elements vs)) (opening levels.Array)
 unfolding aggregate_begin array_begin
 array_read vs = left _ (last (open_bracket_read space) (λ a u. nothing (tt, refl)))
 
-structure_read : (packed : Bool) (vs : Initials) → Reads aggregate_begin (Begins (members packed vs)) (opening (level_of packed))
+structure_read : (packed : Bool) (vs : Initials) → Parses aggregate_begin (Begins (members packed vs)) (opening (level_of packed))
 unfolding aggregate_begin structure_begin packed_begin
 structure_read false vs = right _ (left _ (last (open_brace_read space) (λ a u. nothing (refl, refl))))
 structure_read true vs = right _ (right _ (then open_angle_read (λ a u. last brace_read (λ b v. nothing (refl, refl)))))
@@ -98,7 +98,7 @@ plain_begins x (rh.Number t) p = absurd p
 plain_begins x rh.Array p = absurd p
 plain_begins x (rh.Struct packed) p = absurd p
 
-beginning_read : (f : Form) (v : Initial) → InitialReadable f v → Reads (beginning memory_shape (scalar_of (written_shape f))) (Begins v) (begin_pieces v)
+beginning_read : (f : Form) (v : Initial) → InitialReadable f v → Parses (beginning memory_shape (scalar_of (written_shape f))) (Begins v) (begin_pieces v)
 unfolding beginning
 beginning_read f (plain x) h = right _ (right _ (right _ (known_as (Begins (plain x)) (λ y p. plain_begins x y p) (constant_read (scalar_of (written_shape f)) space x h))))
 beginning_read f zeros h = left _ (known_as (Begins zeros) (λ x e. subst (Begins zeros) (sym e) (tt, refl)) zeros_read)
@@ -113,20 +113,20 @@ aggregate_at levels.Array = aggregates.Array
 aggregate_at levels.Struct = aggregates.Struct false
 aggregate_at levels.PackedStruct = aggregates.Struct true
 
-brace_closed : (first none : Bool) → Reads (read.mark first heads.CloseBrace) Any (closing_brace none)
-unfolding head_of mark_head
-brace_closed first true = single tight kinds.Other 125 [] (by_class (closing_refusal first) heads.CloseBrace kinds.Other (125 ∷ []) refl)
-brace_closed first false = single space kinds.Other 125 [] (by_class (closing_refusal first) heads.CloseBrace kinds.Other (125 ∷ []) refl)
+brace_closed : (first none : Bool) → Parses (read.mark first kinds.CloseBrace) Any (closing_brace none)
+unfolding kind_of mark_kind
+brace_closed first true = single tight forms.Other 125 [] (by_class (closing_refusal first) kinds.CloseBrace forms.Other (125 ∷ []) refl)
+brace_closed first false = single space forms.Other 125 [] (by_class (closing_refusal first) kinds.CloseBrace forms.Other (125 ∷ []) refl)
 
-closing_read : (first : Bool) (level : Level) (none : Bool) → Reads (read.closing first (aggregate_at level)) Any (printed.closing level none)
-unfolding brace head_of mark_head
-closing_read first levels.Array none = single tight kinds.Other 93 [] (by_class (closing_refusal first) heads.CloseBracket kinds.Other (93 ∷ []) refl)
+closing_read : (first : Bool) (level : Level) (none : Bool) → Parses (read.closing first (aggregate_at level)) Any (printed.closing level none)
+unfolding brace kind_of mark_kind
+closing_read first levels.Array none = single tight forms.Other 93 [] (by_class (closing_refusal first) kinds.CloseBracket forms.Other (93 ∷ []) refl)
 closing_read first levels.Struct none = last (brace_closed first none) (λ a u. nothing tt)
 closing_read first levels.PackedStruct none = then (brace_closed first none) (λ a u. close_angle_read tight)
 
 -- ---- parts
 
-part_shape_read : (level : Level) (first : Bool) (f : Form) → ShapeReadable f → Reads (read.part_shape memory_shape first) (λ t. t.shape ≡ written_shape f) (printed.part_shape level first f)
+part_shape_read : (level : Level) (first : Bool) (f : Form) → ShapeReadable f → Parses (read.part_shape memory_shape first) (λ t. t.shape ≡ written_shape f) (printed.part_shape level first f)
 part_shape_read levels.Array true f h = memory_shape_read tight f h
 part_shape_read levels.Struct true f h = memory_shape_read space f h
 part_shape_read levels.PackedStruct true f h = memory_shape_read space f h
@@ -137,24 +137,24 @@ abbrev IsBegun : Form → Initial → List Aggregate → raw_part.InitPart × Sp
 IsBegun f v open_ones x = IsInitPart (Typed f (tree_head v)) x.0 × (x.1 ≡ entered (begins v) open_ones)
 
 begun_read : (level : Level) (first : Bool) (open_ones : List Aggregate) (f : Form) (v : Initial) → ShapeReadable f → InitialReadable f v
-    → Reads (begun memory_shape first open_ones) (IsBegun f v open_ones) (printed.part_shape level first f ++ begin_pieces v)
+    → Parses (begun memory_shape first open_ones) (IsBegun f v open_ones) (printed.part_shape level first f ++ begin_pieces v)
 unfolding begun part
 begun_read level first open_ones f v s h =
     last {P = λ p. (p.0.shape ≡ written_shape f) × Begins v p.1} (then (part_shape_read level first f s) (λ typed e.
-    last (subst (λ (w : Written). Reads (beginning memory_shape (scalar_of w)) (Begins v) (begin_pieces v)) (sym e) (beginning_read f v h)) (λ head p. nothing (e, p))))
+    last (subst (λ (w : Written). Parses (beginning memory_shape (scalar_of w)) (Begins v) (begin_pieces v)) (sym e) (beginning_read f v h)) (λ head p. nothing (e, p))))
     (λ p q. nothing ((q.0, q.1.0), ap (λ (a : Option Aggregate). entered a open_ones) q.1.1))
 
 -- wherever a part may stand
-somewhere : (first : Bool) (open_ones : List Aggregate) {P : raw_part.InitPart × Spot → Type 0} {ps : List Piece} → Reads (begun memory_shape first open_ones) P ps → Reads (piece memory_shape first open_ones) P ps
+somewhere : (first : Bool) (open_ones : List Aggregate) {P : raw_part.InitPart × Spot → Type 0} {ps : List Piece} → Parses (begun memory_shape first open_ones) P ps → Parses (piece memory_shape first open_ones) P ps
 somewhere first [] r = r
 somewhere first (a ∷ more) r = right _ r
 
 abbrev ReadsParts : Bool → List Aggregate → List InitPart → List Piece → Type 0
-ReadsParts first open_ones parts ps = Reads (Chain outermost (λ s. piece memory_shape s.0 s.1) (first, open_ones)) (Paired IsInitPart parts) ps
+ReadsParts first open_ones parts ps = Parses (Chain outermost (λ s. piece memory_shape s.0 s.1) (first, open_ones)) (Paired IsInitPart parts) ps
 
 -- a part, behind which others are read
 goes_on : (level : Level) (first : Bool) (open_ones : List Aggregate) (f : Form) (v : Initial) → ShapeReadable f → InitialReadable f v → (parts : List InitPart) (ps : List Piece)
-    → Reads (Chain outermost (λ s. piece memory_shape s.0 s.1) (entered (begins v) open_ones)) (Paired IsInitPart parts) ps
+    → Parses (Chain outermost (λ s. piece memory_shape s.0 s.1) (entered (begins v) open_ones)) (Paired IsInitPart parts) ps
     → ReadsParts first open_ones (Typed f (tree_head v) ∷ parts) ((printed.part_shape level first f ++ begin_pieces v) ++ ps)
 goes_on level first open_ones f v s h parts ps r =
     chain_goes_on outermost (λ s. piece memory_shape s.0 s.1) (first, open_ones) (entered (begins v) open_ones) (somewhere first open_ones (begun_read level first open_ones f v s h)) r (λ a more p q. (p, q))
@@ -241,28 +241,28 @@ paired_behind R (a ∷ as') cs [] ds p q = absurd p
 paired_behind R (a ∷ as') cs (b ∷ bs) ds p q = (p.0, paired_behind R as' cs bs ds p.1 q)
 
 -- behind the beginning of an aggregate
-whole_parts_read : (level : Level) (vs : Initials) → InitialsReadable vs → Reads (read.parts memory_shape (aggregate_at level)) (Paired IsInitPart (all_parts vs (End ∷ []))) (parts_in level true vs)
+whole_parts_read : (level : Level) (vs : Initials) → InitialsReadable vs → Parses (read.parts memory_shape (aggregate_at level)) (Paired IsInitPart (all_parts vs (End ∷ []))) (parts_in level true vs)
 unfolding read.parts
 whole_parts_read level vs h =
-    subst (λ (qs : List Piece). Reads (read.parts memory_shape (aggregate_at level)) (Paired IsInitPart (all_parts vs (End ∷ []))) qs) (sym (closed_pieces level true vs))
+    subst (λ (qs : List Piece). Parses (read.parts memory_shape (aggregate_at level)) (Paired IsInitPart (all_parts vs (End ∷ []))) qs) (sym (closed_pieces level true vs))
     (then (inner_read level true vs h) (λ ps p. last (closing_read (is_none ps) level (ends_bare true vs)) (λ a u. nothing
     (subst (λ (parts : List InitPart). Paired IsInitPart parts (ps ++ rp.End ∷ [])) (sym (all_behind vs [] (End ∷ []))) (paired_behind IsInitPart (all_parts vs []) (End ∷ []) ps (rp.End ∷ []) p (tt, tt))))))
 
 -- one that opens no aggregate has no parts
-leaf_read : (f : Form) (v : Initial) → begins v ≡ None → parts_of v [] ≡ [] → InitialReadable f v → Reads (initialiser memory_shape (scalar_of (written_shape f))) (IsInit v) (begin_pieces v)
+leaf_read : (f : Form) (v : Initial) → begins v ≡ None → parts_of v [] ≡ [] → InitialReadable f v → Parses (initialiser memory_shape (scalar_of (written_shape f))) (IsInit v) (begin_pieces v)
 unfolding initialiser
 leaf_read f v none empty h =
-    last (beginning_read f v h) (λ i p. next _ (subst (λ (a : Option Aggregate). Reads (read.behind memory_shape a) (λ ps. ps ≡ []) []) (sym (p.1 ∙ none)) (nothing refl))
+    last (beginning_read f v h) (λ i p. next _ (subst (λ (a : Option Aggregate). Parses (read.behind memory_shape a) (λ ps. ps ≡ []) []) (sym (p.1 ∙ none)) (nothing refl))
     (nothing (record { root = p.0; parts = subst (λ (parts : List InitPart). Paired IsInitPart parts []) (sym empty) tt })))
 
 aggregate_read : (f : Form) (v : Initial) (level : Level) (vs : Initials) → begins v ≡ Some (aggregate_at level) → parts_of v [] ≡ all_parts vs (End ∷ []) → InitialsReadable vs → InitialReadable f v
-    → Reads (initialiser memory_shape (scalar_of (written_shape f))) (IsInit v) (begin_pieces v ++ parts_in level true vs)
+    → Parses (initialiser memory_shape (scalar_of (written_shape f))) (IsInit v) (begin_pieces v ++ parts_in level true vs)
 unfolding initialiser
 aggregate_read f v level vs some parts_are hs h =
-    then (beginning_read f v h) (λ i p. last (subst (λ (a : Option Aggregate). Reads (read.behind memory_shape a) (Paired IsInitPart (all_parts vs (End ∷ []))) (parts_in level true vs)) (sym (p.1 ∙ some)) (whole_parts_read level vs hs))
+    then (beginning_read f v h) (λ i p. last (subst (λ (a : Option Aggregate). Parses (read.behind memory_shape a) (Paired IsInitPart (all_parts vs (End ∷ []))) (parts_in level true vs)) (sym (p.1 ∙ some)) (whole_parts_read level vs hs))
     (λ ps q. nothing (record { root = p.0; parts = subst (λ (parts : List InitPart). Paired IsInitPart parts ps) (sym parts_are) q })))
 
-pub initialiser_read : (f : Form) (v : Initial) → InitialReadable f v → Reads (initialiser memory_shape (scalar_of (written_shape f))) (IsInit v) (value v)
+pub initialiser_read : (f : Form) (v : Initial) → InitialReadable f v → Parses (initialiser memory_shape (scalar_of (written_shape f))) (IsInit v) (value v)
 initialiser_read f (plain x) h = leaf_read f (plain x) refl refl h
 initialiser_read f zeros h = leaf_read f zeros refl refl h
 initialiser_read f (bytes text) h = leaf_read f (bytes text) refl refl h

@@ -23,7 +23,7 @@ use Rattle.read_again.proofs.Printable.{module_printable}
 use Rattle.read_again.proofs.PartsModules.{module_cut}
 use Rattle.read_again.specs.Texts.{line_after, tokens_before, tokens_in}
 use Rattle.read_again.specs.PartsPrinted.{Paired}
-use Rattle.read_again.specs.Reads.{Reads}
+use Rattle.read_again.specs.Reads.{Parses}
 use Rattle.read_again.proofs.Kept.{Kept, kept_none, kept_more, kept}
 
 -- ---- entries
@@ -40,7 +40,7 @@ module _ (room : ℕ) where
   no_entries at = record { value = λ line. ([], (refl, refl), kept_none IsItem) }
 
   one_more_entry : (before : Before) (names left : ℕ) (e : Entry) {es : List Entry} {entry : List Piece} {all : List (List Piece)}
-      → Reads (piece room before names) (IsPlaced e left) entry → ReadsAll (pieces_from room (behind_entry e left)) (Kept IsItem es) all → ReadsAll (pieces_from room (record { before = before; names = names })) (Kept IsItem (e ∷ es)) (entry ∷ all)
+      → Parses (piece room before names) (IsPlaced e left) entry → ReadsAll (pieces_from room (behind_entry e left)) (Kept IsItem es) all → ReadsAll (pieces_from room (record { before = before; names = names })) (Kept IsItem (e ∷ es)) (entry ∷ all)
   one_more_entry before names left e {es} {entry} {all} p q = record {
     value = λ line.
         let a = p.value [] line in

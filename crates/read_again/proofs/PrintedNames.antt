@@ -1,11 +1,11 @@
 -- Printed names are read (LangRef, "Identifiers").
 use Rattle.std.proofs.Common.{◌≡◌, ℕ, ◌<◌, Bool, true, false, cond, not, ◌&&◌, nat_lt, Some, None, List, [], ◌∷◌, drop, decimal, refl, ap, ◌∙◌, arith}
-use Rattle.ir_lex.specs.Heads.{number, head_of}
+use Rattle.ir_lex.specs.TokenKinds.{number, kind_of}
 use Rattle.ir_lex.specs.Quotes.{stripped}
 use Rattle.ir_lex.specs.Tok.{Tok}
-use Rattle.ir_lex.specs.declared.head.Head.{Head}
-use Rattle.ir_lex.specs.declared.head.Head.TheVariants as heads
-use Rattle.ir_lex.specs.declared.token.Kind.TheVariants as kinds
+use Rattle.ir_lex.specs.declared.token_kind.TokenKind.{TokenKind}
+use Rattle.ir_lex.specs.declared.token_kind.TokenKind.TheVariants as kinds
+use Rattle.ir_lex.specs.declared.token.TokenForm.TheVariants as forms
 use Rattle.ir_print.specs.Blocks as printed
 use Rattle.ir_print.specs.Tokens as printed_token
 use Rattle.ir_print.specs.Tokens.{space}
@@ -16,7 +16,7 @@ use Rattle.ir_read.specs.Operands as read
 use Rattle.ir_instructions.specs.Terminators.{target}
 use Rattle.ir_read.specs.Alphabet.{contains}
 use Rattle.read_again.specs.PartsPrinted.{IsNumber}
-use Rattle.read_again.specs.Reads.{Reads}
+use Rattle.read_again.specs.Reads.{Parses}
 use Rattle.read_again.specs.PartsReadable.{IsSmall}
 use Rattle.read_again.proofs.Composed.{then}
 use Rattle.read_again.proofs.Numerals.{decimal_again}
@@ -26,8 +26,8 @@ use Rattle.read_again.proofs.Words.{label_read}
 abbrev pub local_text : ℕ → List ℕ
 local_text n = 37 ∷ decimal n
 
-pub local_class : (n : ℕ) → head_of kinds.Local (local_text n) [] ≡ heads.Local
-unfolding head_of
+pub local_class : (n : ℕ) → kind_of forms.Local (local_text n) [] ≡ kinds.Local
+unfolding kind_of
 local_class n = refl
 
 -- a number that is small enough names something
@@ -42,19 +42,19 @@ small_named t digits n e h = ap (λ (m : ℕ). cond (is_numeral digits && not (n
     by_test false true e = refl
     by_test a false e = absurd cc
 
-bare : (n : ℕ) (t : Tok) → IsToken kinds.Local (local_text n) t → stripped t.kind t.text ≡ decimal n
-bare n t i = ap (λ k. stripped k t.text) i.kind ∙ ap (drop 1) i.text
+bare : (n : ℕ) (t : Tok) → IsToken forms.Local (local_text n) t → stripped t.form t.text ≡ decimal n
+bare n t i = ap (λ k. stripped k t.text) i.form ∙ ap (drop 1) i.text
 
-pub local_named : (n : ℕ) → IsSmall n → (t : Tok) → IsToken kinds.Local (local_text n) t → named t ≡ Some t
+pub local_named : (n : ℕ) → IsSmall n → (t : Tok) → IsToken forms.Local (local_text n) t → named t ≡ Some t
 unfolding named
 local_named n h t i = ap (named_by t) (bare n t i) ∙ small_named t (decimal n) n (decimal_again n (omega (arith, h))) h
 
-pub is_number : (n : ℕ) (t : Tok) → IsToken kinds.Local (local_text n) t → IsNumber n t
-is_number n t i = record { kind = i.kind; text = i.text }
+pub is_number : (n : ℕ) (t : Tok) → IsToken forms.Local (local_text n) t → IsNumber n t
+is_number n t i = record { form = i.form; text = i.text }
 
-pub local_read : (blank : List ℕ) (n : ℕ) → IsSmall n → Reads read.local (IsNumber n) (printed_token.local blank n)
-local_read blank n h = single blank kinds.Local _ _ (by_value refusal LOCAL named kinds.Local (local_text n) (ap (λ (h : Head). contains LOCAL (number h)) (local_class n)) (λ t i. (t, local_named n h t i, is_number n t i)))
+pub local_read : (blank : List ℕ) (n : ℕ) → IsSmall n → Parses read.local (IsNumber n) (printed_token.local blank n)
+local_read blank n h = single blank forms.Local _ _ (by_value refusal LOCAL named forms.Local (local_text n) (ap (λ (h : TokenKind). contains LOCAL (number h)) (local_class n)) (λ t i. (t, local_named n h t i, is_number n t i)))
 
-pub target_read : (n : ℕ) → IsSmall n → Reads target (IsNumber n) (printed.target n)
+pub target_read : (n : ℕ) → IsSmall n → Parses target (IsNumber n) (printed.target n)
 unfolding target
 target_read n h = then (label_read space) (λ a u. local_read space n h)

@@ -3,14 +3,14 @@ use Rattle.std.proofs.Common.{◌≡◌, ℕ, ◌+◌, ◌<◌, ◌≤◌, Bool,
 use Rattle.std.specs.List.{AllByRecursion as Each}
 use Rattle.ir_lex.specs.Tok.{Tok}
 use Rattle.ir_names.specs.Keys.{Key, spelled, written, key_of}
-use Rattle.ir_names.specs.Locals.{Known, with_key, with_name, with_definition, is_below, stands, twice, AreBelow}
+use Rattle.ir_names.specs.Locals.{LocalTable, with_key, with_name, with_definition, is_below, stands, twice, AreBelow}
 use Rattle.ir_names.specs.Numbering.{has_result, is_defined, with_params, with_line, with_lines, with_block, with_blocks, locals_of}
 use Rattle.ir_names.specs.declared.locals.Sort.{Sort}
 use Rattle.ir_names.specs.declared.locals.Sort.TheVariants.{Value, Block}
 use Rattle.ir_read.specs.declared.raw.Block as raw_block
 use Rattle.ir_read.specs.declared.raw.Instr as raw_instr
 use Rattle.ir_read.specs.declared.raw.Instr.TheVariants as ri
-use Rattle.ir_read.specs.declared.raw.Line as raw_line
+use Rattle.ir_read.specs.declared.raw.WrittenLine as raw_line
 use Rattle.ir_read.specs.declared.raw.Param as raw_param
 use Rattle.ir_tree.specs.Formed.{ResultFormed}
 use Rattle.ir_tree.specs.declared.block.Block as tree_block
@@ -70,10 +70,10 @@ named_more : (ss : List Sort) (s : Sort) (t : Tok) → key_of t ≡ written (len
 named_more ss s t e =
     ap (λ (k : Key). with_definition (known_with ss) t.line k s) e
     ∙ ap (λ (b : Bool). cond b (Err (twice t.line)) (Ok (with_key (known_with ss) (written (length ss)) s))) (free ss)
-    ∙ ap (λ (k : Known). Ok k) (more_known ss s)
+    ∙ ap (λ (k : LocalTable). Ok k) (more_known ss s)
 
 pub unnamed_more : (ss : List Sort) (s : Sort) → with_name (known_with ss) None s ≡ Ok (known_with (ss ++ s ∷ []))
-unnamed_more ss s = ap (λ (k : Known). Ok k) (more_known ss s)
+unnamed_more ss s = ap (λ (k : LocalTable). Ok k) (more_known ss s)
 
 -- ---- parameters
 
@@ -116,7 +116,7 @@ gives_none (Store reg x address align) h = refl
 gives_none i h = absurd cc
 
 -- a line gives a result where it has a name
-pub defined_again : (name : Option ℕ) (i : Instr) (r : raw_line.Line) → ResultFormed i name → IsBound name r.name → IsInstruction i r.instr → is_defined r ≡ is_some name
+pub defined_again : (name : Option ℕ) (i : Instr) (r : raw_line.WrittenLine) → ResultFormed i name → IsBound name r.name → IsInstruction i r.instr → is_defined r ≡ is_some name
 defined_again name i r h b j = by_name name r.name h b
   where
     by_name : (name : Option ℕ) (t : Option Tok) → ResultFormed i name → IsBound name t → is_some t || has_result r.instr ≡ is_some name
@@ -127,7 +127,7 @@ defined_again name i r h b j = by_name name r.name h b
 abbrev pub LineFormed : Line → Type 0
 LineFormed l = ResultFormed l.instr l.local
 
-line_again : (ss : List Sort) (l : Line) (r : raw_line.Line) → LineReadable l → LineFormed l → ResultFollows (length ss) l.local → IsLine l r → with_line (known_with ss) r ≡ Ok (known_with (ss ++ result_sort l.local))
+line_again : (ss : List Sort) (l : Line) (r : raw_line.WrittenLine) → LineReadable l → LineFormed l → ResultFollows (length ss) l.local → IsLine l r → with_line (known_with ss) r ≡ Ok (known_with (ss ++ result_sort l.local))
 line_again ss l r h g f p = ap (λ (b : Bool). cond b (with_name (known_with ss) r.name Value) (Ok (known_with ss))) (defined_again l.local l.instr r g p.0 p.1) ∙ by_name l.local r.name h.1 f p.0
   where
     by_name : (name : Option ℕ) (t : Option Tok) → ResultReadable l.instr name → ResultFollows (length ss) name → IsBound name t → cond (is_some name) (with_name (known_with ss) t Value) (Ok (known_with ss)) ≡ Ok (known_with (ss ++ result_sort name))
@@ -139,7 +139,7 @@ long_past : (ss : List Sort) (name : Option ℕ) → length (ss ++ result_sort n
 long_past ss None = ap length (append-nil ss)
 long_past ss (Some n) = long_behind ss Value
 
-lines_again : (ss : List Sort) (ls : List Line) (rs : List raw_line.Line) → Each LineReadable ls → Each LineFormed ls → LinesFollow (length ss) ls → Paired IsLine ls rs → with_lines (known_with ss) rs ≡ Ok (known_with (ss ++ lines_sorts ls))
+lines_again : (ss : List Sort) (ls : List Line) (rs : List raw_line.WrittenLine) → Each LineReadable ls → Each LineFormed ls → LinesFollow (length ss) ls → Paired IsLine ls rs → with_lines (known_with ss) rs ≡ Ok (known_with (ss ++ lines_sorts ls))
 lines_again ss [] [] h g f p = ap (λ (more : List Sort). Ok (known_with more)) (sym (append-nil ss))
 lines_again ss [] (r ∷ rs) h g f p = absurd p
 lines_again ss (l ∷ ls) [] h g f p = absurd p

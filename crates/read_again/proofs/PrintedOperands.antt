@@ -3,7 +3,7 @@ use Rattle.std.proofs.Common.{◌≡◌, ℕ, Ok, List, refl, sym, ap, ◌∙◌
 use Rattle.ir_lex.specs.Tok.{Tok}
 use Rattle.ir_names.specs.Bodies.{operand_in, argument_in, incoming_in}
 use Rattle.ir_names.specs.Locals.{number_in}
-use Rattle.ir_names.specs.Settled.{◌>>=◌}
+use Rattle.ir_names.specs.Resolving.{◌>>=◌}
 use Rattle.ir_names.specs.Symbols.{symbol_of}
 use Rattle.ir_names.specs.Types.{Types}
 use Rattle.ir_names.specs.declared.locals.Sort.{Sort}

@@ -9,8 +9,8 @@ use Rattle.ir_lex.specs.Quotes as quotes
 use Rattle.ir_lex.specs.Quotes.{content, has_zero, inside, is_zero_name, spelled_at, stripped, unescaped_behind}
 use Rattle.ir_lex.specs.Rows.{name_len, string_len}
 use Rattle.ir_lex.specs.declared.bytes.Set.TheVariants.{Digits, LabelBytes, Inside}
-use Rattle.ir_lex.specs.declared.token.Kind.{Kind}
-use Rattle.ir_lex.specs.declared.token.Kind.TheVariants as kinds
+use Rattle.ir_lex.specs.declared.token.TokenForm.{TokenForm}
+use Rattle.ir_lex.specs.declared.token.TokenForm.TheVariants as forms
 use Rattle.ir_lex.proofs.Spelled.{AllIn, run_stops}
 use Rattle.ir_tree.specs.Names.{is_bare, is_name_start, is_name_byte, hex_digit, is_plain, escaped, quoted, unquoted, AllBytes}
 use Rattle.ir_tree.proofs.NamesAgain.{quoted_again}
@@ -114,16 +114,16 @@ unfolding quotes.unescaped
 said [] a = refl
 said (c ∷ cs) a = said_step (is_plain c) c (escaped cs) cs refl a.0 (said cs a.1)
 
-quoted_content : (kind : Kind) (text content_of : List ℕ) → stripped kind text ≡ 34 ∷ closed content_of → AllBytes content_of → content kind text ≡ content_of
+quoted_content : (kind : TokenForm) (text content_of : List ℕ) → stripped kind text ≡ 34 ∷ closed content_of → AllBytes content_of → content kind text ≡ content_of
 unfolding content
 quoted_content kind text s e a =
     ap (λ (o : Option (List ℕ)). elim o as (λ p. List ℕ) [ None ↦ stripped kind text | Some q ↦ quotes.unescaped q ]) (ap inside e ∙ between (escaped s)) ∙ said s a
 
-pub string_content : (text : List ℕ) → AllBytes text → content kinds.Str (34 ∷ closed text) ≡ text
-string_content text a = quoted_content kinds.Str (34 ∷ closed text) text refl a
+pub string_content : (text : List ℕ) → AllBytes text → content forms.Str (34 ∷ closed text) ≡ text
+string_content text a = quoted_content forms.Str (34 ∷ closed text) text refl a
 
-pub byte_string_content : (text : List ℕ) → AllBytes text → content kinds.CStr (99 ∷ 34 ∷ closed text) ≡ text
-byte_string_content text a = quoted_content kinds.CStr (99 ∷ 34 ∷ closed text) text refl a
+pub byte_string_content : (text : List ℕ) → AllBytes text → content forms.CStr (99 ∷ 34 ∷ closed text) ≡ text
+byte_string_content text a = quoted_content forms.CStr (99 ∷ 34 ∷ closed text) text refl a
 
 -- ---- names of globals
 
@@ -135,8 +135,8 @@ pub record NameText (name : List ℕ) : Type 0 where
   pub no_digit : has Digits first ≡ false
   pub long : (rest : List ℕ) → Apart rest → name_len (first ∷ (others ++ rest)) ≡ suc (length others)
   pub shut : (rest : List ℕ) → Apart rest → is_open (first ∷ (others ++ rest)) ≡ false
-  pub named : is_zero_name kinds.Global (64 ∷ first ∷ others) ≡ false
-  pub means : content kinds.Global (64 ∷ first ∷ others) ≡ name
+  pub named : is_zero_name forms.Global (64 ∷ first ∷ others) ≡ false
+  pub means : content forms.Global (64 ∷ first ∷ others) ≡ name
 
 start_is : (c : ℕ) → is_name_start c ≡ true → (starts_name c ≡ true) × (is_ascii_digit c ≡ false) × (nat_eq c 34 ≡ false)
 start_is c h = (one c h, two c h, three c h)
@@ -175,11 +175,11 @@ bare_long c cs rest h a p =
 bare_shut : (c : ℕ) (bs : List ℕ) → nat_eq c 34 ≡ false → is_open (c ∷ bs) ≡ false
 bare_shut c bs h = rw h refl
 
-bare_named : (c : ℕ) (cs : List ℕ) → nat_eq c 34 ≡ false → is_zero_name kinds.Global (64 ∷ c ∷ cs) ≡ false
+bare_named : (c : ℕ) (cs : List ℕ) → nat_eq c 34 ≡ false → is_zero_name forms.Global (64 ∷ c ∷ cs) ≡ false
 unfolding is_zero_name
 bare_named c cs h = rw (bare_inside c cs h) refl
 
-bare_means : (c : ℕ) (cs : List ℕ) → nat_eq c 34 ≡ false → content kinds.Global (64 ∷ c ∷ cs) ≡ c ∷ cs
+bare_means : (c : ℕ) (cs : List ℕ) → nat_eq c 34 ≡ false → content forms.Global (64 ∷ c ∷ cs) ≡ c ∷ cs
 unfolding content
 bare_means c cs h = rw (bare_inside c cs h) refl
 
@@ -209,7 +209,7 @@ quoted_long : (name rest : List ℕ) → name_len (34 ∷ (closed name ++ rest))
 unfolding name_len has
 quoted_long name rest = rw (string_whole name rest, closed_length name) (grind (arith, common_steps))
 
-quoted_named : (name : List ℕ) → IsName name → is_zero_name kinds.Global (64 ∷ 34 ∷ closed name) ≡ false
+quoted_named : (name : List ℕ) → IsName name → is_zero_name forms.Global (64 ∷ 34 ∷ closed name) ≡ false
 unfolding is_zero_name
 quoted_named name n = rw (between (escaped name), said name n.bytes) n.no_zero
 
@@ -226,7 +226,7 @@ quoted_name name n h = record {
   long = λ rest p. quoted_long name rest;
   shut = λ rest p. string_closed name rest;
   named = quoted_named name n;
-  means = quoted_content kinds.Global (64 ∷ 34 ∷ closed name) name refl n.bytes;
+  means = quoted_content forms.Global (64 ∷ 34 ∷ closed name) name refl n.bytes;
 }
 
 pub name_text : (name : List ℕ) → IsName name → NameText name
@@ -238,11 +238,11 @@ name_text (c ∷ cs) n = by_test (is_name_start c) (list_all is_name_byte cs) re
     by_test true false e f = quoted_name (c ∷ cs) n (rw (e, f) refl)
     by_test false b e f = quoted_name (c ∷ cs) n (rw e refl)
 
-pub name_content : (name : List ℕ) → IsName name → content kinds.Global (64 ∷ quoted name) ≡ name
+pub name_content : (name : List ℕ) → IsName name → content forms.Global (64 ∷ quoted name) ≡ name
 name_content name n =
     let t = name_text name n in
-    ap (λ (text : List ℕ). content kinds.Global (64 ∷ text)) t.whole ∙ t.means
+    ap (λ (text : List ℕ). content forms.Global (64 ∷ text)) t.whole ∙ t.means
 
 -- both ways to read a name give the one that is printed
-pub names_agree : (name : List ℕ) → IsName name → unquoted (quoted name) ≡ Some (content kinds.Global (64 ∷ quoted name))
+pub names_agree : (name : List ℕ) → IsName name → unquoted (quoted name) ≡ Some (content forms.Global (64 ∷ quoted name))
 names_agree name n = quoted_again name n.bytes ∙ ap (λ (x : List ℕ). Some x) (sym (name_content name n))

@@ -6,8 +6,8 @@ use Rattle.ir_lex.specs.Tok.{Tok}
 use Rattle.named_values.specs.Blocks.{function_in}
 use Rattle.ir_names.specs.Bodies.{operand_in}
 use Rattle.ir_names.specs.Groups.{groups_of, is_noinline, is_optnone}
-use Rattle.ir_names.specs.Locals.{Known, none_known}
-use Rattle.ir_names.specs.Settled.{◌>>=◌, each}
+use Rattle.ir_names.specs.Locals.{LocalTable, none_known}
+use Rattle.ir_names.specs.Resolving.{◌>>=◌, each}
 use Rattle.ir_names.specs.Types.{Types, expanded}
 use Rattle.ir_names.specs.Variables.{constant_for, head_in, part_in, init_in, init_if, variable_in}
 use Rattle.ir_names.specs.declared.fault.Fault.{Fault}
@@ -16,7 +16,7 @@ use Rattle.ir_parse.specs.Reading.{Reads}
 use Rattle.ir_parse.specs.Targets.{last_or, text_of, triple_string}
 use Rattle.ir_parse.specs.Values.{put, value_in, values_in}
 use Rattle.ir_read.specs.declared.raw.Block as raw_block
-use Rattle.ir_read.specs.declared.raw.Head as raw_function
+use Rattle.ir_read.specs.declared.raw.FunctionHeader as raw_function
 use Rattle.ir_read.specs.declared.raw.Init as raw_init
 use Rattle.ir_read.specs.declared.raw.InitHead as raw_head
 use Rattle.ir_read.specs.declared.raw.InitHead.TheVariants as rh
@@ -84,22 +84,22 @@ headed_bytes (th.Struct packed) vs b h = h
 -- ---- as they resolve
 
 module _ (types : Types) where
-  head_bytes : (known : Known) (s : Written) (f : Form) (r : raw_head.InitHead) (h : InitHead) → BeginningSpelled s r → head_in types known f r ≡ Ok h → HeadBytes h
+  head_bytes : (known : LocalTable) (s : Written) (f : Form) (r : raw_head.InitHead) (h : InitHead) → BeginningSpelled s r → head_in types known f r ≡ Ok h → HeadBytes h
   head_bytes known s f (rh.Plain operand) h b e = let x = took (operand_in types known operand) (λ o. Ok (th.Plain (constant_for f o))) h e in subst HeadBytes (one x.2) tt
   head_bytes known s f rh.Zeros h b e = subst HeadBytes (one e) tt
-  head_bytes known s f (rh.Bytes string) h b e = subst HeadBytes (one e) (content_bytes string.kind string.text b)
+  head_bytes known s f (rh.Bytes string) h b e = subst HeadBytes (one e) (content_bytes string.form string.text b)
   head_bytes known s f (rh.Number t) h b e = subst HeadBytes (one e) tt
   head_bytes known s f rh.Array h b e = subst HeadBytes (one e) tt
   head_bytes known s f (rh.Struct packed) h b e = subst HeadBytes (one e) tt
 
-  part_bytes : (known : Known) (r : raw_part.InitPart) (p : InitPart) → PartSpelled r → part_in types known r ≡ Ok p → PartBytes p
+  part_bytes : (known : LocalTable) (r : raw_part.InitPart) (p : InitPart) → PartSpelled r → part_in types known r ≡ Ok p → PartBytes p
   part_bytes known (rp.Typed typed head) p b e =
       let f = took (expanded types typed) (λ f. head_in types known f head >>= λ h. Ok (tp.Typed f h)) p e in
       let h = took (head_in types known f.0 head) (λ h. Ok (tp.Typed f.0 h)) p f.2 in
       subst PartBytes (one h.2) (head_bytes known typed.shape f.0 head h.0 b.1 h.1)
   part_bytes known rp.End p b e = subst PartBytes (one e) tt
 
-  parts_bytes : (known : Known) (rs : List raw_part.InitPart) (ps : List InitPart) → Each PartSpelled rs → each (part_in types known) rs ≡ Ok ps → Each PartBytes ps
+  parts_bytes : (known : LocalTable) (rs : List raw_part.InitPart) (ps : List InitPart) → Each PartSpelled rs → each (part_in types known) rs ≡ Ok ps → Each PartBytes ps
   parts_bytes known [] ps b e = subst (Each PartBytes) (one e) tt
   parts_bytes known (r ∷ rs) ps b e =
       let p = took (part_in types known r) (λ p. each (part_in types known) rs >>= λ more. Ok (p ∷ more)) ps e in
@@ -128,7 +128,7 @@ module _ (types : Types) where
     no_strings : (o : Option GlobalValue) → ◌≡◌ {A = Result (Option GlobalValue) Fault} (Ok None) (Ok o) → IfThere StringsAreBytes o
     no_strings o e = subst (IfThere StringsAreBytes) (one e) tt
 
-    function_strings : (head : raw_function.Head) (blocks : List raw_block.Block) (noinline optnone : Bool) (o : Option GlobalValue) → function_in types head blocks noinline optnone >>= (λ f. Ok (Some (globals.Function f))) ≡ Ok o → IfThere StringsAreBytes o
+    function_strings : (head : raw_function.FunctionHeader) (blocks : List raw_block.Block) (noinline optnone : Bool) (o : Option GlobalValue) → function_in types head blocks noinline optnone >>= (λ f. Ok (Some (globals.Function f))) ≡ Ok o → IfThere StringsAreBytes o
     function_strings head blocks noinline optnone o e =
         let f = took (function_in types head blocks noinline optnone) (λ f. Ok (Some (globals.Function f))) o e in subst (IfThere StringsAreBytes) (one f.2) tt
 
@@ -153,7 +153,7 @@ module _ (types : Types) where
 
 triple_bytes : (before : Option Tok) (is : List Item) → IfSome before OfBytes → Each ItemSpelled is → AllBytes (text_of (last_or before (filter_map triple_string is)))
 triple_bytes None [] h b = tt
-triple_bytes (Some string) [] h b = content_bytes string.kind string.text h
+triple_bytes (Some string) [] h b = content_bytes string.form string.text h
 triple_bytes before (items.Triple string ∷ is) h b = triple_bytes (Some string) is b.0 b.1
 triple_bytes before (i ∷ is) h b = triple_bytes before is h b.1
 

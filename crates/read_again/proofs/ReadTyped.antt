@@ -9,7 +9,7 @@ use Rattle.named_values.specs.Blocks.{blocks_of, function_in}
 use Rattle.ir_names.specs.Bodies.{operand_in}
 use Rattle.ir_names.specs.Groups.{groups_of, is_noinline, is_optnone}
 use Rattle.ir_names.specs.Locals.{none_known, number_in}
-use Rattle.ir_names.specs.Settled.{◌>>=◌, each}
+use Rattle.ir_names.specs.Resolving.{◌>>=◌, each}
 use Rattle.ir_names.specs.Symbols.{symbol_of}
 use Rattle.ir_names.specs.Types.{Types, expand, expanded, head_of, is_width, limit, scalar}
 use Rattle.ir_names.specs.Variables.{constant_for, constant_type, head_in, literal_or, number_for, part_in, init_in, init_if, variable_in}
@@ -22,7 +22,7 @@ use Rattle.ir_tree.specs.declared.operand.Reg.TheVariants.{Int}
 use Rattle.ir_read.specs.Shapes as shapes
 use Rattle.ir_read.specs.Shapes.{Written}
 use Rattle.ir_read.specs.declared.raw.Block as raw_block
-use Rattle.ir_read.specs.declared.raw.Head.{Head}
+use Rattle.ir_read.specs.declared.raw.FunctionHeader.{FunctionHeader}
 use Rattle.ir_read.specs.declared.raw.Init as raw_init
 use Rattle.ir_read.specs.declared.raw.InitHead as raw_head
 use Rattle.ir_read.specs.declared.raw.InitHead.TheVariants as rh
@@ -195,7 +195,7 @@ module _ (types : Types) where
 
     -- ---- functions
 
-    function_typed : (head : Head) (rs : List raw_block.Block) (noinline optnone : Bool) (f : Function) → Each BlockSpelled rs → function_in types head rs noinline optnone ≡ Ok f → FunctionTyped f
+    function_typed : (head : FunctionHeader) (rs : List raw_block.Block) (noinline optnone : Bool) (f : Function) → Each BlockSpelled rs → function_in types head rs noinline optnone ≡ Ok f → FunctionTyped f
     unfolding function_in
     function_typed head rs noinline optnone f b d =
         let bs = took (blocks_of types head.params rs) (λ bs. Ok (read_function head noinline optnone bs)) f d in
@@ -207,7 +207,7 @@ module _ (types : Types) where
       no_value : (o : Option GlobalValue) → ◌≡◌ {A = Result (Option GlobalValue) Fault} (Ok None) (Ok o) → IfThere ValueTyped o
       no_value o d = subst (IfThere ValueTyped) (one d) tt
 
-      function_value : (head : Head) (rs : List raw_block.Block) (noinline optnone : Bool) → Each BlockSpelled rs → (o : Option GlobalValue) → function_in types head rs noinline optnone >>= (λ f. Ok (Some (globals.Function f))) ≡ Ok o → IfThere ValueTyped o
+      function_value : (head : FunctionHeader) (rs : List raw_block.Block) (noinline optnone : Bool) → Each BlockSpelled rs → (o : Option GlobalValue) → function_in types head rs noinline optnone >>= (λ f. Ok (Some (globals.Function f))) ≡ Ok o → IfThere ValueTyped o
       function_value head rs noinline optnone b o d =
           let f = took (function_in types head rs noinline optnone) (λ f. Ok (Some (globals.Function f))) o d in
           subst (IfThere ValueTyped) (one f.2) (function_typed head rs noinline optnone f.0 b f.1)

@@ -10,9 +10,9 @@ use Rattle.ir_lex.specs.Tok.{Tok}
 use Rattle.named_values.specs.Blocks.{block_of, block_in, behind_block, blocks_in, blocks_of, body_in, body_of, function_in, params_from}
 use Rattle.ir_names.specs.Bodies.{behind_line, end_in, instr_in, lines_in, operand_in}
 use Rattle.ir_names.specs.Groups.{groups_of, is_noinline, is_optnone}
-use Rattle.ir_names.specs.Locals.{Known, none_known}
+use Rattle.ir_names.specs.Locals.{LocalTable, none_known}
 use Rattle.ir_names.specs.Numbering.{locals_of}
-use Rattle.ir_names.specs.Settled.{◌>>=◌, each}
+use Rattle.ir_names.specs.Resolving.{◌>>=◌, each}
 use Rattle.ir_names.specs.Types.{Types, is_width, expanded}
 use Rattle.ir_names.specs.Variables.{constant_for, head_in, literal_or, number_for, part_in, init_in, init_if, variable_in}
 use Rattle.named_values.specs.declared.block.Body.{Body}
@@ -22,7 +22,7 @@ use Rattle.ir_parse.specs.Targets.{last_or, layout_string, text_of}
 use Rattle.ir_parse.specs.Values.{put, value_in, values_in}
 use Rattle.ir_heads.specs.Targets.{fits_layout}
 use Rattle.ir_read.specs.declared.raw.Block as raw_block
-use Rattle.ir_read.specs.declared.raw.Head.{Head}
+use Rattle.ir_read.specs.declared.raw.FunctionHeader.{FunctionHeader}
 use Rattle.ir_read.specs.declared.raw.Init as raw_init
 use Rattle.ir_read.specs.declared.raw.InitHead as raw_head
 use Rattle.ir_read.specs.declared.raw.InitHead.TheVariants as rh
@@ -30,7 +30,7 @@ use Rattle.ir_read.specs.declared.raw.InitPart as raw_part
 use Rattle.ir_read.specs.declared.raw.InitPart.TheVariants as rp
 use Rattle.ir_read.specs.declared.raw.Item.{Item}
 use Rattle.ir_read.specs.declared.raw.Item.TheVariants as items
-use Rattle.ir_read.specs.declared.raw.Line as raw_line
+use Rattle.ir_read.specs.declared.raw.WrittenLine as raw_line
 use Rattle.ir_read.specs.declared.raw.Param.{Param}
 use Rattle.ir_read.specs.declared.raw.Variable as raw_variable
 use Rattle.ir_read.specs.Literals.{literal}
@@ -70,7 +70,7 @@ layout_is (c ∷ cs) b f = (b, f)
 
 layout_readable : ContentsAreBytes → (before : Option Tok) (is : List Item) → IfSome before LayoutSpelled → Each ItemSpelled is → LayoutReadable (text_of (last_or before (filter_map layout_string is)))
 layout_readable contents None [] h s = tt
-layout_readable contents (Some string) [] h s = layout_is (content string.kind string.text) (contents string.kind string.text h.0) h.1
+layout_readable contents (Some string) [] h s = layout_is (content string.form string.text) (contents string.form string.text h.0) h.1
 layout_readable contents before (items.Datalayout string ∷ is) h s = layout_readable contents (Some string) is s.0 s.1
 layout_readable contents before (i ∷ is) h s = layout_readable contents before is h s.1
 
@@ -81,8 +81,8 @@ many_params n [] = refl
 many_params n (p ∷ ps) = ap suc (many_params (n + 1) ps)
 
 module _ (types : Types) where
-  module _ (known : Known) where
-    many_lines : (n : ℕ) (rs : List raw_line.Line) (ls : List Line) → lines_in types known n rs ≡ Ok ls → length ls ≡ length rs
+  module _ (known : LocalTable) where
+    many_lines : (n : ℕ) (rs : List raw_line.WrittenLine) (ls : List Line) → lines_in types known n rs ≡ Ok ls → length ls ≡ length rs
     many_lines n [] ls e = ap length (sym (one e))
     many_lines n (r ∷ rs) ls e =
         let i = took (instr_in types known r.instr) (λ i. lines_in types known (behind_line n r) rs >>= λ more. Ok (line_of n r i ∷ more)) ls e in
@@ -115,7 +115,7 @@ module _ (types : Types) where
 
   -- ---- functions
 
-  function_within : TypesCounted types → (head : Head) (rs : List raw_block.Block) (noinline optnone : Bool) (f : Function) → FewParams head → BodySpelled rs → function_in types head rs noinline optnone ≡ Ok f → FunctionWithin f
+  function_within : TypesCounted types → (head : FunctionHeader) (rs : List raw_block.Block) (noinline optnone : Bool) (f : Function) → FewParams head → BodySpelled rs → function_in types head rs noinline optnone ≡ Ok f → FunctionWithin f
   unfolding function_in
   function_within t head rs noinline optnone f few body e =
       let bs = took (blocks_of types head.params rs) (λ bs. Ok (read_function head noinline optnone bs)) f e in
@@ -237,7 +237,7 @@ module _ (types : Types) where
     abbrev ValueRight : Item → Option GlobalValue → Type 0
     ValueRight i o = IfThere GoodValue o × ((gs : List GlobalValue) → length (put o gs) ≡ count_of i + length gs)
 
-    function_named : (head : Head) (rs : List raw_block.Block) (noinline optnone : Bool) (f : Function) → NameSpelled head.name → function_in types head rs noinline optnone ≡ Ok f → NameWithin f.symbol
+    function_named : (head : FunctionHeader) (rs : List raw_block.Block) (noinline optnone : Bool) (f : Function) → NameSpelled head.name → function_in types head rs noinline optnone ≡ Ok f → NameWithin f.symbol
     unfolding function_in
     function_named head rs noinline optnone f n e =
         let bs = took (blocks_of types head.params rs) (λ bs. Ok (read_function head noinline optnone bs)) f e in
@@ -256,7 +256,7 @@ module _ (types : Types) where
     a_value : (i : Item) → count_of i ≡ 1 → (g : GlobalValue) → GoodValue g → ValueRight i (Some g)
     a_value i single g w = (w, λ gs. omega (arith, single))
 
-    function_value : (i : Item) → count_of i ≡ 1 → (head : Head) (rs : List raw_block.Block) (noinline optnone : Bool) → HeadSpelled head → BodySpelled rs → (o : Option GlobalValue) → function_in types head rs noinline optnone >>= (λ f. Ok (Some (globals.Function f))) ≡ Ok o → ValueRight i o
+    function_value : (i : Item) → count_of i ≡ 1 → (head : FunctionHeader) (rs : List raw_block.Block) (noinline optnone : Bool) → HeadSpelled head → BodySpelled rs → (o : Option GlobalValue) → function_in types head rs noinline optnone >>= (λ f. Ok (Some (globals.Function f))) ≡ Ok o → ValueRight i o
     function_value i single head rs noinline optnone few body o e =
         let f = took (function_in types head rs noinline optnone) (λ f. Ok (Some (globals.Function f))) o e in
         subst (ValueRight i) (one f.2) (a_value i single (globals.Function f.0) (function_within t head rs noinline optnone f.0 few.1 body f.1, function_named head rs noinline optnone f.0 few.0 f.1))

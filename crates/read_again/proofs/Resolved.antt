@@ -5,7 +5,7 @@ use Rattle.std.specs.List.{AllByRecursion as Each}
 use Rattle.std.specs.Prelude.{All, Contains}
 use Rattle.std.proofs.lemmas.List.Elements.{recursion_from_All}
 use Rattle.ir_names.specs.declared.locals.Sort.TheVariants.{Block}
-use Rattle.ir_tree.specs.Flow.{targets}
+use Rattle.ir_tree.specs.Flow.{successors}
 use Rattle.ir_tree.specs.Formed.{ArgumentFormed, Formed, IsBlock, ItemFormed, OperandFormed}
 use Rattle.ir_tree.specs.Items.{Item, phi_item, line_item, end_item, items, operands, entries, reads, phi_reads, taken, taken_as}
 use Rattle.ir_tree.specs.Wholes.{IsKnown, ItemKnown}
@@ -83,7 +83,7 @@ module _ (known : List tree_symbol.Symbol) (at_home : (s : tree_symbol.Symbol) �
       }
 
   end_known : (b : ℕ) (t : Terminator) → IsGood (end_item b t) → EndKnown (sorts f) t
-  end_known b t g = record { operands = all_known (end_item b t) g; targets = targets_known (targets t) (recursion_from_All (IsBlock f) (targets t) g.formed.kind.1) }
+  end_known b t g = record { operands = all_known (end_item b t) g; targets = targets_known (successors t) (recursion_from_All (IsBlock f) (successors t) g.formed.kind.1) }
 
   -- ---- functions
 

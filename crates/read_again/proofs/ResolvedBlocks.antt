@@ -7,7 +7,7 @@ use Rattle.ir_names.specs.Numbering.{is_defined}
 use Rattle.ir_names.specs.Types.{Types}
 use Rattle.ir_names.specs.declared.locals.Sort.{Sort}
 use Rattle.ir_read.specs.declared.raw.Block as raw_block
-use Rattle.ir_read.specs.declared.raw.Line as raw_line
+use Rattle.ir_read.specs.declared.raw.WrittenLine as raw_line
 use Rattle.ir_tree.specs.declared.block.Block as tree_block
 use Rattle.ir_tree.specs.declared.instr.Line.{Line}
 use Rattle.ir_tree.specs.declared.instr.Phi.{Phi}
@@ -25,7 +25,7 @@ use Rattle.read_again.specs.PartsPrinted.{Paired}
 module _ (types : Types) (ss : List Sort) where
   -- ---- lines
 
-  is_defined_as : (l : Line) (r : raw_line.Line) → LineKnown ss l → IsLine l r → is_defined r ≡ is_some l.local
+  is_defined_as : (l : Line) (r : raw_line.WrittenLine) → LineKnown ss l → IsLine l r → is_defined r ≡ is_some l.local
   is_defined_as l r k p = defined_again l.local l.instr r k.result p.0 p.1
 
   local_again : (n : ℕ) (name : Option ℕ) → ResultFollows n name → cond (is_some name) (Some n) None ≡ name
@@ -36,10 +36,10 @@ module _ (types : Types) (ss : List Sort) where
   past_again n None = refl
   past_again n (Some x) = refl
 
-  behind_again : (n : ℕ) (l : Line) (r : raw_line.Line) → LineKnown ss l → IsLine l r → behind_line n r ≡ past n l.local
+  behind_again : (n : ℕ) (l : Line) (r : raw_line.WrittenLine) → LineKnown ss l → IsLine l r → behind_line n r ≡ past n l.local
   behind_again n l r k p = ap (λ (b : Bool). cond b (n + 1) n) (is_defined_as l r k p) ∙ past_again n l.local
 
-  lines_again : (n : ℕ) (ls : List Line) (rs : List raw_line.Line) → Each LineReadable ls → Each (LineKnown ss) ls → LinesFollow n ls → Paired IsLine ls rs → (lines_in types (known_with ss) n rs ≡ Ok ls) × (behind_lines n rs ≡ past_lines n ls)
+  lines_again : (n : ℕ) (ls : List Line) (rs : List raw_line.WrittenLine) → Each LineReadable ls → Each (LineKnown ss) ls → LinesFollow n ls → Paired IsLine ls rs → (lines_in types (known_with ss) n rs ≡ Ok ls) × (behind_lines n rs ≡ past_lines n ls)
   lines_again n [] [] h k f p = (refl, refl)
   lines_again n [] (r ∷ rs) h k f p = absurd p
   lines_again n (l ∷ ls) [] h k f p = absurd p

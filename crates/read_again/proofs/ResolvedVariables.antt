@@ -5,7 +5,7 @@ use Rattle.ir_globals.specs.Constants.{type_of}
 use Rattle.ir_globals.specs.Initialisers.{scalar_of}
 use Rattle.ir_lex.specs.Quotes.{content}
 use Rattle.ir_lex.specs.Tok.{Tok}
-use Rattle.ir_lex.specs.declared.token.Kind.TheVariants as kinds
+use Rattle.ir_lex.specs.declared.token.TokenForm.TheVariants as forms
 use Rattle.ir_names.specs.Bodies.{align_or}
 use Rattle.ir_names.specs.Locals.{none_known}
 use Rattle.ir_names.specs.Types.{Types}
@@ -48,8 +48,8 @@ as_operand : (reg : Reg) (x : Operand) → ConstantReadable reg x → OperandRea
 as_operand reg (Local n) h = absurd h
 as_operand reg x h = h
 
-string_again : (text : List ℕ) (t : Tok) → AllBytes text → IsBytes text t → content t.kind t.text ≡ text
-string_again text t a i = ap (λ k. content k t.text) i.kind ∙ ap (content kinds.CStr) i.text ∙ byte_string_content text a
+string_again : (text : List ℕ) (t : Tok) → AllBytes text → IsBytes text t → content t.form t.text ≡ text
+string_again text t a i = ap (λ k. content k t.text) i.form ∙ ap (content forms.CStr) i.text ∙ byte_string_content text a
 
 -- what is asked of a beginning behind this shape
 abbrev HeadFits : Form → InitHead → Type 0

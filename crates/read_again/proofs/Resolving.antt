@@ -6,9 +6,9 @@ use Rattle.std.proofs.lemmas.List.Elements.{All-from_recursion}
 use Rattle.ir_names.specs.Addresses.{level_offset, offset_behind}
 use Rattle.named_values.specs.Blocks.{body_of, body_in, block_of, block_in, behind_block, blocks_in, blocks_of, phis_of, rest_of}
 use Rattle.ir_names.specs.Bodies.{local_at, operand_in, argument_in, incoming_in, allocated, align_or, reg_align, instr_in, lines_in, behind_line, end_in, case_in}
-use Rattle.ir_names.specs.Locals.{Known, number_in}
+use Rattle.ir_names.specs.Locals.{LocalTable, number_in}
 use Rattle.ir_names.specs.Numbering.{locals_of}
-use Rattle.ir_names.specs.Settled.{◌>>=◌, each}
+use Rattle.ir_names.specs.Resolving.{◌>>=◌, each}
 use Rattle.ir_names.specs.Symbols.{symbol_of}
 use Rattle.ir_names.specs.Types.{Types, array_of, expanded, expand, within}
 use Rattle.named_values.specs.declared.block.Body.{Body}
@@ -20,7 +20,7 @@ use Rattle.ir_read.specs.declared.raw.Case as raw_case
 use Rattle.ir_read.specs.declared.raw.Incoming as raw_incoming
 use Rattle.ir_read.specs.declared.raw.Instr as raw_instr
 use Rattle.ir_read.specs.declared.raw.Instr.TheVariants as ri
-use Rattle.ir_read.specs.declared.raw.Line as raw_line
+use Rattle.ir_read.specs.declared.raw.WrittenLine as raw_line
 use Rattle.ir_read.specs.declared.raw.Operand as raw_operand
 use Rattle.ir_read.specs.declared.raw.Operand.TheVariants as ro
 use Rattle.ir_read.specs.declared.raw.Param as raw_param
@@ -61,7 +61,7 @@ entry_of b o = record { from = b; value = o }
 abbrev case_of : raw_case.Case → ℕ → Case
 case_of r b = record { reg = r.reg; width = r.width; bits = r.bits; target = b }
 
-abbrev pub line_of : ℕ → raw_line.Line → Instr → Line
+abbrev pub line_of : ℕ → raw_line.WrittenLine → Instr → Line
 line_of n r i = record { local = local_at n r; instr = i }
 
 abbrev pub block_with : ℕ → Body → Terminator → Block
@@ -92,7 +92,7 @@ module _ (types : Types) where
   offset_small n (l ∷ ls) m h e =
       let k = took (level_offset types l) (λ k. offset_behind ((n + k) % 2 ^ 64) types ls) m e in offset_small ((n + k.0) % 2 ^ 64) ls m (rest_small (n + k.0)) k.2
 
-  module _ (locals : Known) where
+  module _ (locals : LocalTable) where
     pub operand_fits : (r : raw_operand.Operand) (x : Operand) → operand_in types locals r ≡ Ok x → OffsetFits x
     operand_fits (ro.Local name) x e = let n = took (number_in locals sorts.Value name) (λ n. Ok (to.Local n)) x e in subst OffsetFits (one n.2) tt
     operand_fits (ro.Global name) x e = subst OffsetFits (one e) (omega arith)
@@ -201,7 +201,7 @@ module _ (types : Types) where
         let given = took (each (argument_in types locals) arguments) (λ given. Ok (ti.Call result c.0 given)) i c.2 in
         subst InstrRight (one given.2) ((operand_right Ptr callee c.0 h.0 c.1, without_end given.0 (arguments_right arguments given.0 h.1 given.1)), tt)
 
-    lines_right : TypesCounted types → (n : ℕ) (rs : List raw_line.Line) (ls : List Line) → Each (λ (r : raw_line.Line). InstrSpelled r.instr) rs → lines_in types locals n rs ≡ Ok ls → Each (λ (l : Line). InstrRight l.instr) ls
+    lines_right : TypesCounted types → (n : ℕ) (rs : List raw_line.WrittenLine) (ls : List Line) → Each (λ (r : raw_line.WrittenLine). InstrSpelled r.instr) rs → lines_in types locals n rs ≡ Ok ls → Each (λ (l : Line). InstrRight l.instr) ls
     lines_right t n [] ls h e = subst (Each (λ (l : Line). InstrRight l.instr)) (one e) tt
     lines_right t n (r ∷ rs) ls h e =
         let i = took (instr_in types locals r.instr) (λ i. lines_in types locals (behind_line n r) rs >>= λ more. Ok (line_of n r i ∷ more)) ls e in

@@ -15,7 +15,7 @@ use Rattle.ir_tree.specs.Forms.{Form, Forms, int, pointer, array, structure, no_
 use Rattle.ir_tree.specs.Layout.{size, IsLaidOut, AreLaidOut}
 use Rattle.read_again.specs.PartsPrinted.{written_shape, written_parts}
 use Rattle.read_again.specs.PartsReadable.{CountsReadable, AllCountsReadable, ShapeReadable}
-use Rattle.read_again.specs.Reads.{Reads}
+use Rattle.read_again.specs.Reads.{Parses}
 use Rattle.read_again.proofs.PartsShapes.{HasRoom, PartsHaveRoom, shape_read}
 use Rattle.read_again.proofs.PartsShapes as shapes
 use Rattle.read_again.proofs.Sizes.{IsMultiple, is_multiple, multiplied, same_size}
@@ -393,7 +393,7 @@ good_whole : Good whole
 good_whole = record { bounded = record { some = omega arith; one = omega arith; two = omega arith; four = omega arith; eight = omega arith }; nested = nested_whole }
 
 -- a formed shape is read
-pub memory_shape_read : (blank : List ℕ) (f : Form) → ShapeReadable f → Reads memory_shape (shapes.IsShape f) (shape blank f)
+pub memory_shape_read : (blank : List ℕ) (f : Form) → ShapeReadable f → Parses memory_shape (shapes.IsShape f) (shape blank f)
 unfolding memory_shape
 memory_shape_read blank f r =
     shape_read blank f 32 whole (has_room f 32 whole r.shape.stored r.shape.nested r.shape.sized r.counts good_whole (whole_most (extent_of (written_shape f)).align (extent_of (written_shape f)).size (size_most f r.shape.stored r.shape.sized)))

@@ -1,7 +1,7 @@
 -- A printed shape expands to itself, and one step over bytes to its offset.
 use Rattle.std.proofs.Common.{◌≡◌, ℕ, zero, suc, ◌+◌, ◌*◌, ◌%◌, ◌^◌, ◌≤◌, ◌<◌, max, inl, Bool, true, false, cond, ◌&&◌, nat_le, Ok, Err, List, [], ◌∷◌, length, refl, ap, ◌∙◌, arith}
 use Rattle.ir_names.specs.Addresses.{extended, offset_of, level_offset, offset_behind}
-use Rattle.ir_names.specs.Settled.{◌>>=◌, each}
+use Rattle.ir_names.specs.Resolving.{◌>>=◌, each}
 use Rattle.ir_names.specs.Types.{Types, head_from, head_of, scalar, limit, within, opened, without_parts, expand, expanded}
 use Rattle.ir_read.specs.Shapes as w
 use Rattle.ir_read.specs.Shapes.{list_of as written_list}

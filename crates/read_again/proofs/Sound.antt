@@ -5,7 +5,7 @@ use Rattle.std.specs.Prelude.{All}
 use Rattle.std.proofs.lemmas.List.Elements.{recursion_from_All}
 use Rattle.named_values.specs.Blocks.{as_phi}
 use Rattle.ir_names.specs.declared.locals.Sort.TheVariants.{Block}
-use Rattle.ir_tree.specs.Flow.{targets}
+use Rattle.ir_tree.specs.Flow.{successors}
 use Rattle.ir_tree.specs.Formed.{OperandFormed, ArgumentFormed, IsBlock, ItemFormed}
 use Rattle.ir_tree.specs.Items.{Item, phi_item, line_item, end_item, items, items_from, block_items, lines_from, operands, entries, reads, phi_reads, taken, taken_as}
 use Rattle.ir_tree.specs.Rules.{IsNoPhi, StandsRight, Sound}
@@ -93,7 +93,7 @@ module _ (f : Function) (n : IsNumbered f) where
   phi_known b p g = record { operands = tt; entries = entries_known p.reg p.incoming (all_known (phi_item b p) g) (sources (phi_item b p) g); result = refl }
 
   end_known : (b : ℕ) (t : Terminator) → IsGood (end_item b t) → EndKnown (sorts f) t
-  end_known b t g = record { operands = all_known (end_item b t) g; targets = blocks_known (targets t) (recursion_from_All (IsBlock f) (targets t) g.formed.kind.1) }
+  end_known b t g = record { operands = all_known (end_item b t) g; targets = blocks_known (successors t) (recursion_from_All (IsBlock f) (successors t) g.formed.kind.1) }
 
   -- ---- blocks
 

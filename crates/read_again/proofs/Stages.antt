@@ -5,7 +5,7 @@ use Rattle.named_values.specs.Blocks.{as_phi, phi_of, phi_before, lines_behind, 
 use Rattle.ir_names.specs.Bodies.{align_or}
 use Rattle.ir_names.specs.Groups.{groups_of}
 use Rattle.ir_names.specs.Marks.{marks_of}
-use Rattle.ir_names.specs.Settled.{◌>>=◌}
+use Rattle.ir_names.specs.Resolving.{◌>>=◌}
 use Rattle.ir_names.specs.Stages.{marks_within, globals_named}
 use Rattle.ir_names.specs.Symbols.{symbol_of}
 use Rattle.ir_names.specs.TypeNames.{type_names}
@@ -13,7 +13,7 @@ use Rattle.ir_names.specs.Types.{Types}
 use Rattle.ir_parse.specs.Stages.{module_in, module_with}
 use Rattle.ir_parse.specs.Targets.{datalayout_of, triple_of}
 use Rattle.ir_parse.specs.Values.{put, values_in}
-use Rattle.ir_read.specs.declared.raw.Head.{Head}
+use Rattle.ir_read.specs.declared.raw.FunctionHeader.{FunctionHeader}
 use Rattle.ir_read.specs.declared.raw.Item.{Item}
 use Rattle.ir_read.specs.declared.raw.Variable as raw_variable
 use Rattle.ir_tree.specs.Forms.{Form}
@@ -57,7 +57,7 @@ parted (l ∷ ls) = by (parted ls) (as_phi l) refl
 
 -- ---- what is made of heads and of variables
 
-abbrev pub read_function : Head → Bool → Bool → List Block → Function
+abbrev pub read_function : FunctionHeader → Bool → Bool → List Block → Function
 read_function head noinline optnone bs =
     record { symbol = symbol_of head.name; linkage = head.linkage; result = head.result; params = params_from 0 head.params; noinline = noinline; optnone = optnone; blocks = bs }
 

@@ -5,15 +5,15 @@ use Rattle.ir_lex.specs.Pieces.{Piece}
 use Rattle.ir_lex.specs.Tok.{Tok}
 use Rattle.ir_read.specs.Forms.{Form}
 use Rattle.read_again.specs.Texts.{line_after, tokens_before}
-use Rattle.read_again.specs.Reads.{Reads}
+use Rattle.read_again.specs.Reads.{Parses}
 use Rattle.read_again.proofs.Composed.{tokens_append}
 
 module _ {S A : Type 0} (piece : S → Form Tok (A × S)) where
-  pub no_more_pieces : (room : ℕ) (s : S) {P : List A → Type 0} → P [] → Reads (Successive piece room s) P []
+  pub no_more_pieces : (room : ℕ) (s : S) {P : List A → Type 0} → P [] → Parses (Successive piece room s) P []
   no_more_pieces room s p = record { value = λ behind line. ([], refl, p) }
 
   pub one_more_piece : (room : ℕ) (s next : S) {P : A → Type 0} {Q R : List A → Type 0} {ps qs : List Piece}
-      → Reads (piece s) (λ x. P x.0 × (x.1 ≡ next)) ps → Reads (Successive piece room next) Q qs → ((a : A) (more : List A) → P a → Q more → R (a ∷ more)) → Reads (Successive piece (suc room) s) R (ps ++ qs)
+      → Parses (piece s) (λ x. P x.0 × (x.1 ≡ next)) ps → Parses (Successive piece room next) Q qs → ((a : A) (more : List A) → P a → Q more → R (a ∷ more)) → Parses (Successive piece (suc room) s) R (ps ++ qs)
   one_more_piece room s next {ps = ps} {qs = qs} p q r = record {
     value = λ behind line.
         let a = p.value (qs ++ behind) line in

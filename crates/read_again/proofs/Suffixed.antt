@@ -5,9 +5,9 @@ use Rattle.std.proofs.lemmas.Bool.{and_parts, false≢true}
 use Rattle.std.proofs.lemmas.Slice.Eq.{bytes_eq-Decides}
 use Rattle.std.specs.Fmt.{decimal, digit_glyph, digits, digits_onto}
 use Rattle.std.specs.Str.{bytes_eq}
-use Rattle.ir_lex.specs.Heads.{begins_with, name_head}
+use Rattle.ir_lex.specs.TokenKinds.{begins_with, name_kind}
 use Rattle.ir_lex.specs.Quotes.{has_zero}
-use Rattle.ir_lex.specs.declared.head.Head.TheVariants as heads
+use Rattle.ir_lex.specs.declared.token_kind.TokenKind.TheVariants as kinds
 use Rattle.ir_tree.specs.Names.{AllBytes}
 use Rattle.promote_rename.specs.Suffixes.{leading_number}
 use Rattle.sha1.specs.Sha1.{sha1}
@@ -83,13 +83,13 @@ begins_kept (a ∷ b ∷ c ∷ d ∷ f ∷ name) rest e = by (bytes_eq (a ∷ b 
     by true = refl
     by false = e
 
-tests : (p q : Bool) → cond p heads.LifetimeMarker (cond q heads.ReservedGlobal heads.Global) ≡ heads.Global → (p ≡ false) × (q ≡ false)
+tests : (p q : Bool) → cond p kinds.LifetimeMarker (cond q kinds.ReservedGlobal kinds.Global) ≡ kinds.Global → (p ≡ false) × (q ≡ false)
 tests true q e = absurd (cc e)
 tests false true e = absurd (cc e)
 tests false false e = (refl, refl)
 
 not_kept : (name : List ℕ) → IsOrdinary name → is_kept name ≡ false
-unfolding name_head
+unfolding name_kind
 not_kept name h = (tests (bytes_eq name (codes "llvm.lifetime.start.p0") || bytes_eq name (codes "llvm.lifetime.end.p0")) (is_kept name) h).1
 
 is_false : (b : Bool) → (b ≡ true → ⊥) → b ≡ false
@@ -101,13 +101,13 @@ differs xs ys never = is_false (bytes_eq xs ys) (λ e. never ((bytes_eq-Decides 
 
 -- a name that doesn't begin as those do that are kept, and is none that is shorter
 ordinary : (name : List ℕ) → begins_with (codes "llvm.") name ≡ false → (name ≡ codes "llvm" → ⊥) → IsOrdinary name
-unfolding name_head
+unfolding name_kind
 ordinary name none other =
     let begins = λ (text : List ℕ) (b : begins_with (codes "llvm.") text ≡ true) (e : name ≡ text). false≢true (sym none ∙ ap (begins_with (codes "llvm.")) e ∙ b) in
     let first : bytes_eq name (codes "llvm.lifetime.start.p0") ≡ false = differs name (codes "llvm.lifetime.start.p0") (begins (codes "llvm.lifetime.start.p0") refl) in
     let second : bytes_eq name (codes "llvm.lifetime.end.p0") ≡ false = differs name (codes "llvm.lifetime.end.p0") (begins (codes "llvm.lifetime.end.p0") refl) in
     let third : bytes_eq name (codes "llvm") ≡ false = differs name (codes "llvm") other in
-    (λ i. cond (first i || second i) heads.LifetimeMarker (cond (third i || none i) heads.ReservedGlobal heads.Global))
+    (λ i. cond (first i || second i) kinds.LifetimeMarker (cond (third i || none i) kinds.ReservedGlobal kinds.Global))
 
 suffixed_ordinary : (name rest : List ℕ) → IsOrdinary name → IsOrdinary (name ++ (codes ".llvm." ++ rest))
 suffixed_ordinary name rest h =

@@ -6,7 +6,7 @@ use Rattle.ir_lex.specs.Bytes.{has}
 use Rattle.ir_lex.specs.Quotes.{stripped, content}
 use Rattle.ir_lex.specs.Tok.{Tok}
 use Rattle.ir_lex.specs.declared.bytes.Set.TheVariants.{Digits}
-use Rattle.ir_lex.specs.declared.token.Kind.TheVariants as kinds
+use Rattle.ir_lex.specs.declared.token.TokenForm.TheVariants as forms
 use Rattle.ir_names.specs.Keys.{is_numeral}
 use Rattle.ir_names.specs.Symbols.{trimmed, symbol_name, symbol_of}
 use Rattle.ir_tree.specs.Names.{quoted}
@@ -22,17 +22,17 @@ not_digits c cs e = ap (λ (b : Bool). b && list_all is_ascii_digit cs) e
 no_numeral : (name : List ℕ) → IsName name → is_numeral (quoted name) ≡ false
 no_numeral name n = let t = name_text name n in ap is_numeral t.whole ∙ not_digits t.first t.others t.no_digit
 
-global_bare : (name : List ℕ) (t : Tok) → IsGlobal name t → stripped t.kind t.text ≡ quoted name
-global_bare name t i = ap (λ k. stripped k t.text) i.kind ∙ ap (drop 1) i.text
+global_bare : (name : List ℕ) (t : Tok) → IsGlobal name t → stripped t.form t.text ≡ quoted name
+global_bare name t i = ap (λ k. stripped k t.text) i.form ∙ ap (drop 1) i.text
 
-means_name : (name : List ℕ) (t : Tok) → IsName name → IsGlobal name t → content t.kind t.text ≡ name
-means_name name t n i = ap (λ k. content k t.text) i.kind ∙ ap (content kinds.Global) i.text ∙ name_content name n
+means_name : (name : List ℕ) (t : Tok) → IsName name → IsGlobal name t → content t.form t.text ≡ name
+means_name name t n i = ap (λ k. content k t.text) i.form ∙ ap (content forms.Global) i.text ∙ name_content name n
 
 name_again : (name : List ℕ) (t : Tok) → IsName name → IsGlobal name t → symbol_name t ≡ name
 unfolding symbol_name
 name_again name t n i =
-    ap (λ (bare : List ℕ). cond (is_numeral bare) (trimmed bare) (content t.kind t.text)) (global_bare name t i)
-    ∙ ap (λ (b : Bool). cond b (trimmed (quoted name)) (content t.kind t.text)) (no_numeral name n)
+    ap (λ (bare : List ℕ). cond (is_numeral bare) (trimmed bare) (content t.form t.text)) (global_bare name t i)
+    ∙ ap (λ (b : Bool). cond b (trimmed (quoted name)) (content t.form t.text)) (no_numeral name n)
     ∙ means_name name t n i
 
 pub symbol_again : (s : Symbol) (t : Tok) → s.home ≡ None → IsName s.name → IsGlobal s.name t → symbol_of t ≡ s

@@ -3,7 +3,7 @@ use Rattle.std.proofs.Common.{◌≡◌, ℕ, zero, suc, ◌+◌, ◌<◌, Bool,
 use Rattle.std.specs.List.{position_or_len}
 use Rattle.ir_lex.specs.Tok.{Tok}
 use Rattle.ir_names.specs.Keys.{Key, written, same_key, key_of}
-use Rattle.ir_names.specs.Locals.{Known, sort_of, same_sort, is_used_as, unknown, number_in}
+use Rattle.ir_names.specs.Locals.{LocalTable, sort_of, same_sort, is_used_as, unknown, number_in}
 use Rattle.ir_names.specs.declared.locals.Sort.{Sort}
 use Rattle.ir_names.specs.declared.locals.Sort.TheVariants.{Value, Block}
 
@@ -13,7 +13,7 @@ keys_from k [] = []
 keys_from k (s ∷ ss) = (written k, s) ∷ keys_from (k + 1) ss
 
 -- definitions of these sorts, by their places
-abbrev pub known_with : List Sort → Known
+abbrev pub known_with : List Sort → LocalTable
 known_with ss = record { definitions = keys_from 0 ss; counter = length ss }
 
 -- x is the key at this place, where the first is k

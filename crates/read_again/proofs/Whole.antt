@@ -7,7 +7,7 @@ use Rattle.ir_tree.specs.declared.instr.Instr.TheVariants.{Binary, Icmp, Cast, S
 use Rattle.read_again.specs.Behind.{worded}
 use Rattle.read_again.specs.PartsPrinted.{IsInstr}
 use Rattle.read_again.specs.PartsReadable.{InstrReadable}
-use Rattle.read_again.specs.Reads.{Reads}
+use Rattle.read_again.specs.Reads.{Parses}
 use Rattle.read_again.proofs.Addressing.{alloca_read, address_read}
 use Rattle.read_again.proofs.Composed.{then}
 use Rattle.read_again.proofs.PartsInstructions.{opcode_read, conversion_read, binary_read, icmp_read, cast_read, select_read, freeze_read, load_read, store_read}
@@ -15,7 +15,7 @@ use Rattle.read_again.proofs.Phis.{phi_read}
 use Rattle.read_again.proofs.Rooms.{memory_shape_read}
 use Rattle.read_again.proofs.Words as words
 
-pub instruction_read : (blank : List ℕ) (i : Instr) → InstrReadable i → Reads (worded i) (IsInstr i) (instruction blank i)
+pub instruction_read : (blank : List ℕ) (i : Instr) → InstrReadable i → Parses (worded i) (IsInstr i) (instruction blank i)
 instruction_read blank (Binary op fs w x y) h = then (opcode_read blank op) (λ a u. binary_read w x y h.1 h.2 h.3 op fs h.0)
 instruction_read blank (Icmp predicate reg x y) h = then (words.icmp_read blank) (λ a u. icmp_read predicate reg x y h.0 h.1 h.2)
 instruction_read blank (Cast op from x to) h = then (conversion_read blank op) (λ a u. cast_read op from x to h.0 h.1 h.2)

@@ -1,22 +1,22 @@
 -- A token of the class of a global's name is one of that kind.
 use Rattle.std.proofs.Common.{◌≡◌, ℕ, nat_eq, Bool, true, false, List, [], ◌∷◌, length, refl, sym, ◌∙◌, if◌then◌else◌}
-use Rattle.ir_lex.specs.Heads.{head_of, integer_head, listed_head, mark_head, number, width_head, word_head, words_1, words_2, words_3, words_4, words_5, words_6, words_7, words_8, words_9, words_10, words_11, words_12, words_13, words_14, words_15, words_18, words_20, words_21, words_22, words_23}
-use Rattle.ir_lex.specs.declared.head.Head.{Head}
-use Rattle.ir_lex.specs.declared.head.Head.TheVariants as heads
-use Rattle.ir_lex.specs.declared.token.Kind.{Kind}
-use Rattle.ir_lex.specs.declared.token.Kind.TheVariants as kinds
+use Rattle.ir_lex.specs.TokenKinds.{kind_of, integer_kind, listed_kind, mark_kind, number, width_kind, word_kind, words_1, words_2, words_3, words_4, words_5, words_6, words_7, words_8, words_9, words_10, words_11, words_12, words_13, words_14, words_15, words_18, words_20, words_21, words_22, words_23}
+use Rattle.ir_lex.specs.declared.token_kind.TokenKind.{TokenKind}
+use Rattle.ir_lex.specs.declared.token_kind.TokenKind.TheVariants as kinds
+use Rattle.ir_lex.specs.declared.token.TokenForm.{TokenForm}
+use Rattle.ir_lex.specs.declared.token.TokenForm.TheVariants as forms
 use Rattle.ir_read.specs.Alphabet.{contains}
 use Rattle.ir_operands.specs.Values.{GLOBAL}
 
 -- no class of a name
-record Other (h : Head) : Type 0 where
+record Other (h : TokenKind) : Type 0 where
   not : contains GLOBAL (number h) ≡ false
 
-other : (h : Head) → contains GLOBAL (number h) ≡ false → Other h
+other : (h : TokenKind) → contains GLOBAL (number h) ≡ false → Other h
 other h o = record { not = o }
 
 -- a row of a table, and those below it
-row : (b : Bool) (x y : Head) → Other x → Other y → Other (if b then x else y)
+row : (b : Bool) (x y : TokenKind) → Other x → Other y → Other (if b then x else y)
 row true x y h k = h
 row false x y h k = k
 
@@ -102,51 +102,51 @@ write_23 : (text : List ℕ) → Other (words_23 text)
 unfolding words_23
 write_23 text = search (row, other) depth 11 fits 3000
 
-listed_write : (text : List ℕ) → Other (listed_head text)
-unfolding listed_head
+listed_write : (text : List ℕ) → Other (listed_kind text)
+unfolding listed_kind
 listed_write text = search (row, other, write_1, write_2, write_3, write_4, write_5, write_6, write_7, write_8, write_9, write_10, write_11, write_12, write_13, write_14, write_15, write_18, write_20, write_21, write_22, write_23) depth 30 fits 3000
 
 -- ---- other words
 
-width_write : (n : ℕ) → Other (width_head n)
+width_write : (n : ℕ) → Other (width_kind n)
 width_write n = search (row, other)
 
-integer_write : (bs : List ℕ) → Other (integer_head bs)
-integer_write [] = other heads.Word refl
+integer_write : (bs : List ℕ) → Other (integer_kind bs)
+integer_write [] = other kinds.Word refl
 integer_write (b ∷ ds) = search (row, other, width_write)
 
-word_write : (text : List ℕ) → Other (word_head text)
-unfolding word_head
+word_write : (text : List ℕ) → Other (word_kind text)
+unfolding word_kind
 word_write text = search (row, integer_write, listed_write)
 
 -- ---- names and marks
 
-mark_write : (text behind : List ℕ) → Other (mark_head text behind)
-unfolding mark_head
+mark_write : (text behind : List ℕ) → Other (mark_kind text behind)
+unfolding mark_kind
 mark_write text behind = search (row, other) depth 20 fits 2000
 
 -- ---- tokens
 
-meta_write : (text : List ℕ) → Other (if nat_eq (length text) 1 then heads.Bang else heads.Meta)
+meta_write : (text : List ℕ) → Other (if nat_eq (length text) 1 then kinds.Bang else kinds.Meta)
 meta_write text = search (row, other)
 
-clash : (h : Head) → Other h → contains GLOBAL (number h) ≡ true → ⊥
+clash : (h : TokenKind) → Other h → contains GLOBAL (number h) ≡ true → ⊥
 clash h o c = by (sym o.not ∙ c)
   where
     by : false ≡ true → ⊥
     by e = cc
 
-pub is_global : (kind : Kind) (text behind : List ℕ) → contains GLOBAL (number (head_of kind text behind)) ≡ true → kind ≡ kinds.Global
-unfolding head_of
-is_global kinds.Global text behind c = refl
-is_global kinds.Word text behind c = absurd (clash (word_head text) (word_write text) c)
-is_global kinds.Other text behind c = absurd (clash (mark_head text behind) (mark_write text behind) c)
-is_global kinds.Meta text behind c = absurd (clash (if nat_eq (length text) 1 then heads.Bang else heads.Meta) (meta_write text) c)
-is_global kinds.Label text behind c = absurd cc
-is_global kinds.Number text behind c = absurd cc
-is_global kinds.Local text behind c = absurd cc
-is_global kinds.Comdat text behind c = absurd cc
-is_global kinds.Group text behind c = absurd cc
-is_global kinds.Str text behind c = absurd cc
-is_global kinds.CStr text behind c = absurd cc
-is_global kinds.Dots text behind c = absurd cc
+pub is_global : (kind : TokenForm) (text behind : List ℕ) → contains GLOBAL (number (kind_of kind text behind)) ≡ true → kind ≡ forms.Global
+unfolding kind_of
+is_global forms.Global text behind c = refl
+is_global forms.Word text behind c = absurd (clash (word_kind text) (word_write text) c)
+is_global forms.Other text behind c = absurd (clash (mark_kind text behind) (mark_write text behind) c)
+is_global forms.Meta text behind c = absurd (clash (if nat_eq (length text) 1 then kinds.Bang else kinds.Meta) (meta_write text) c)
+is_global forms.Label text behind c = absurd cc
+is_global forms.Number text behind c = absurd cc
+is_global forms.Local text behind c = absurd cc
+is_global forms.Comdat text behind c = absurd cc
+is_global forms.Group text behind c = absurd cc
+is_global forms.Str text behind c = absurd cc
+is_global forms.CStr text behind c = absurd cc
+is_global forms.Dots text behind c = absurd cc

@@ -2,14 +2,14 @@
 use Rattle.std.proofs.Common.{◌≡◌, ℕ, suc, ◌≤◌, nat_eq, if◌then◌else◌, ◌||◌, ◌++◌, Bool, true, false, List, length, refl, arith}
 use Rattle.ir_globals.specs.Variables.{variable_name}
 use Rattle.ir_parse.specs.Modules.{FURTHER_PARAMETERS}
-use Rattle.ir_lex.specs.Heads.{number}
+use Rattle.ir_lex.specs.TokenKinds.{number}
 use Rattle.ir_lex.specs.Tok.{Tok}
-use Rattle.ir_lex.specs.declared.head.Head.TheVariants as heads
+use Rattle.ir_lex.specs.declared.token_kind.TokenKind.TheVariants as kinds
 use Rattle.ir_heads.specs.FunctionHeads.{GLOBAL as function_names, NUMBERED, function_name, head, is_local, listed_params, params, some_params}
 use Rattle.ir_operands.specs.Values.{GLOBAL}
 use Rattle.ir_heads.specs.declared.function_heads.Role.{Role}
 use Rattle.ir_heads.specs.declared.function_heads.Role.TheVariants as roles
-use Rattle.ir_read.specs.declared.raw.Head.{Head}
+use Rattle.ir_read.specs.declared.raw.FunctionHeader.{FunctionHeader}
 use Rattle.ir_read.specs.declared.raw.Param.{Param}
 use Rattle.ir_tree.specs.declared.function.Linkage.{Linkage}
 use Rattle.ir_read.specs.Alphabet.{contains}
@@ -32,11 +32,11 @@ among_global false true false e = refl
 among_global false false c e = absurd cc
 
 pub variable_name_spelled : Means variable_name NameSpelled
-variable_name_spelled = global_means _ _ (λ t s c. s.named (among_global (nat_eq (number t.head) (number heads.Global)) (nat_eq (number t.head) (number heads.NumberedDefinition)) (nat_eq (number t.head) (number heads.NumberedGlobal)) c))
+variable_name_spelled = global_means _ _ (λ t s c. s.named (among_global (nat_eq (number t.kind) (number kinds.Global)) (nat_eq (number t.kind) (number kinds.NumberedDefinition)) (nat_eq (number t.kind) (number kinds.NumberedGlobal)) c))
 
 -- a lifetime marker, which is dropped, has no name of this kind
 abbrev pub Marked : Role → Tok → Type 0
-Marked roles.Declaration t = nat_eq (number t.head) (number heads.LifetimeMarker) ≡ false → NameSpelled t
+Marked roles.Declaration t = nat_eq (number t.kind) (number kinds.LifetimeMarker) ≡ false → NameSpelled t
 Marked roles.Definition t = NameSpelled t
 
 one_global : (a b c : Bool) → a || false ≡ true → a || (b || (c || false)) ≡ true
@@ -56,14 +56,14 @@ unmarked_global false false b c e f = absurd cc
 
 function_name_spelled : (role : Role) (l : Linkage) → Means (function_name role l) (Marked role)
 function_name_spelled roles.Declaration l =
-    global_means _ _ (λ t s c f. s.named (unmarked_global (nat_eq (number t.head) (number heads.LifetimeMarker)) (nat_eq (number t.head) (number heads.Global)) (nat_eq (number t.head) (number heads.NumberedGlobal)) (nat_eq (number t.head) (number heads.NumberedDefinition)) c f))
+    global_means _ _ (λ t s c f. s.named (unmarked_global (nat_eq (number t.kind) (number kinds.LifetimeMarker)) (nat_eq (number t.kind) (number kinds.Global)) (nat_eq (number t.kind) (number kinds.NumberedGlobal)) (nat_eq (number t.kind) (number kinds.NumberedDefinition)) c f))
 function_name_spelled roles.Definition l = global_means _ _ (λ t s c. s.named (by t (is_local l) c))
   where
-    by : (t : Tok) (b : Bool) → contains (if b then NUMBERED ++ function_names else function_names) (number t.head) ≡ true → contains GLOBAL (number t.head) ≡ true
-    by t true c = numbered_global (nat_eq (number t.head) (number heads.Global)) (nat_eq (number t.head) (number heads.NumberedGlobal)) (nat_eq (number t.head) (number heads.NumberedDefinition)) c
-    by t false c = one_global (nat_eq (number t.head) (number heads.Global)) (nat_eq (number t.head) (number heads.NumberedGlobal)) (nat_eq (number t.head) (number heads.NumberedDefinition)) c
+    by : (t : Tok) (b : Bool) → contains (if b then NUMBERED ++ function_names else function_names) (number t.kind) ≡ true → contains GLOBAL (number t.kind) ≡ true
+    by t true c = numbered_global (nat_eq (number t.kind) (number kinds.Global)) (nat_eq (number t.kind) (number kinds.NumberedGlobal)) (nat_eq (number t.kind) (number kinds.NumberedDefinition)) c
+    by t false c = one_global (nat_eq (number t.kind) (number kinds.Global)) (nat_eq (number t.kind) (number kinds.NumberedGlobal)) (nat_eq (number t.kind) (number kinds.NumberedDefinition)) c
 
-abbrev pub HeadMarked : Role → Head → Type 0
+abbrev pub HeadMarked : Role → FunctionHeader → Type 0
 HeadMarked role h = Marked role h.name × FewParams h
 
 pub head_spelled : (role : Role) → Means (head role FURTHER_PARAMETERS) (HeadMarked role)

@@ -8,8 +8,8 @@ use Rattle.ir_globals.specs.Initialisers.{aggregate_of, scalar_of}
 use Rattle.ir_globals.specs.Variables.{value}
 use Rattle.ir_globals.specs.declared.initialisers.Aggregate.{Aggregate}
 use Rattle.ir_lex.specs.Tok.{Tok}
-use Rattle.ir_lex.specs.declared.head.Head.{Head}
-use Rattle.ir_lex.specs.declared.head.Head.TheVariants as heads
+use Rattle.ir_lex.specs.declared.token_kind.TokenKind.{TokenKind}
+use Rattle.ir_lex.specs.declared.token_kind.TokenKind.TheVariants as kinds
 use Rattle.ir_read.specs.Literals.{literal}
 use Rattle.ir_operands.specs.ShapeForms.{memory_shape}
 use Rattle.ir_read.specs.Shapes as shapes
@@ -44,19 +44,19 @@ global_spelled : (s : Written) (t : Option Tok) (o : InitHead) → option_map (�
 global_spelled s None o e = absurd cc
 global_spelled s (Some t) o e = let same : plain (operands.Global t) ≡ o = cc in subst (BeginningSpelled s) same tt
 
-constant_class : (head : Head) (s : Written) (t : Tok) (o : InitHead) → constant_by head (scalar_of s) t ≡ Some o → BeginningSpelled s o
-constant_class heads.Number s t o e = number_spelled s t o e
-constant_class heads.True s t o e = let same : plain (operands.Number 1 1) ≡ o = cc in subst (BeginningSpelled s) same (inl refl)
-constant_class heads.False s t o e = one_bit s o e
-constant_class heads.Null s t o e = let same : plain operands.Null ≡ o = cc in subst (BeginningSpelled s) same tt
-constant_class heads.Poison s t o e = let same : plain (operands.Poison (type_of (scalar_of s))) ≡ o = cc in subst (BeginningSpelled s) same tt
-constant_class heads.Global s t o e = let same : plain (operands.Global t) ≡ o = cc in subst (BeginningSpelled s) same tt
-constant_class heads.NumberedGlobal s t o e = global_spelled s (named t) o e
-constant_class heads.NumberedDefinition s t o e = global_spelled s (named t) o e
+constant_class : (head : TokenKind) (s : Written) (t : Tok) (o : InitHead) → constant_by head (scalar_of s) t ≡ Some o → BeginningSpelled s o
+constant_class kinds.Number s t o e = number_spelled s t o e
+constant_class kinds.True s t o e = let same : plain (operands.Number 1 1) ≡ o = cc in subst (BeginningSpelled s) same (inl refl)
+constant_class kinds.False s t o e = one_bit s o e
+constant_class kinds.Null s t o e = let same : plain operands.Null ≡ o = cc in subst (BeginningSpelled s) same tt
+constant_class kinds.Poison s t o e = let same : plain (operands.Poison (type_of (scalar_of s))) ≡ o = cc in subst (BeginningSpelled s) same tt
+constant_class kinds.Global s t o e = let same : plain (operands.Global t) ≡ o = cc in subst (BeginningSpelled s) same tt
+constant_class kinds.NumberedGlobal s t o e = global_spelled s (named t) o e
+constant_class kinds.NumberedDefinition s t o e = global_spelled s (named t) o e
 constant_class head s t o e = absurd cc
 
 single_spelled : (s : Written) → Means (single (scalar_of s)) (BeginningSpelled s)
-single_spelled s = valued_means _ _ (λ t o c e. constant_class t.head s t o e)
+single_spelled s = valued_means _ _ (λ t o c e. constant_class t.kind s t o e)
 
 constant_spelled : (s : Written) → Means (constant memory_shape (scalar_of s)) (BeginningSpelled s)
 unfolding constant

@@ -7,10 +7,10 @@ use Rattle.ir_globals.specs.TypeDefinitions.{defined, type_line}
 use Rattle.ir_globals.specs.Variables.{behind_kind, is_declared, variable_line, variable_name}
 use Rattle.ir_parse.specs.ItemForms as whole
 use Rattle.ir_parse.specs.Modules.{FURTHER_PARAMETERS, GLOBAL_NAMES, whole_module}
-use Rattle.ir_lex.specs.Heads.{number}
+use Rattle.ir_lex.specs.TokenKinds.{number}
 use Rattle.ir_lex.specs.Quotes.{content}
 use Rattle.ir_lex.specs.Tok.{Tok}
-use Rattle.ir_lex.specs.declared.head.Head.TheVariants as heads
+use Rattle.ir_lex.specs.declared.token_kind.TokenKind.TheVariants as kinds
 use Rattle.ir_names.specs.Types.{shape_if}
 use Rattle.ir_heads.specs.Attributes.{attribute_group}
 use Rattle.ir_read.specs.Classes.{refusal}
@@ -20,7 +20,7 @@ use Rattle.ir_heads.specs.declared.function_heads.Role.TheVariants as roles
 use Rattle.ir_read.specs.declared.places.Before.{Before}
 use Rattle.ir_read.specs.declared.places.Before.TheVariants as befores
 use Rattle.ir_read.specs.declared.places.Position.{Position}
-use Rattle.ir_read.specs.declared.raw.Head.{Head}
+use Rattle.ir_read.specs.declared.raw.FunctionHeader.{FunctionHeader}
 use Rattle.ir_read.specs.declared.raw.Item.{Item}
 use Rattle.ir_read.specs.declared.raw.Item.TheVariants as item
 use Rattle.ir_read.specs.Chained.{Chain}
@@ -49,14 +49,14 @@ variable_spelled =
 
 layout_spelled : Means (form.token is_layout) LayoutSpelled
 unfolding is_layout
-layout_spelled = token_means (λ t a s h. by t a s.bytes (nat_eq (number t.head) (number heads.Str)) h)
+layout_spelled = token_means (λ t a s h. by t a s.bytes (nat_eq (number t.kind) (number kinds.Str)) h)
   where
-    inner : (t a : Tok) → OfBytes t → (b : Bool) → fits_layout (content t.kind t.text) ≡ b → cond b (Ok t) (Err Profile) ≡ Ok a → LayoutSpelled a
+    inner : (t a : Tok) → OfBytes t → (b : Bool) → fits_layout (content t.form t.text) ≡ b → cond b (Ok t) (Err Profile) ≡ Ok a → LayoutSpelled a
     inner t a s true f e = let same : t ≡ a = cc (e) in subst LayoutSpelled same (s, f)
     inner t a s false f e = absurd (let no : Err Profile ≡ Ok a = e in cc)
 
-    by : (t a : Tok) → OfBytes t → (b : Bool) → cond b (cond (fits_layout (content t.kind t.text)) (Ok t) (Err Profile)) (Err (refusal (number t.head))) ≡ Ok a → LayoutSpelled a
-    by t a s true e = inner t a s (fits_layout (content t.kind t.text)) refl e
+    by : (t a : Tok) → OfBytes t → (b : Bool) → cond b (cond (fits_layout (content t.form t.text)) (Ok t) (Err Profile)) (Err (refusal (number t.kind))) ≡ Ok a → LayoutSpelled a
+    by t a s true e = inner t a s (fits_layout (content t.form t.text)) refl e
     by t a s false e = absurd cc
 
 -- ---- all items, and how many of them define or declare a name
@@ -79,7 +79,7 @@ at_most_one (Some i) = one i
     one i = omega arith
 
 -- one that has no name
-abbrev Nameless : whole.Found → Type 0
+abbrev Nameless : whole.ParsedItem → Type 0
 Nameless x = IfItem x.0 × (count_if x.0 ≡ 0)
 
 left_out_nameless : (g : Form Tok (Unit {0})) → Means (whole.left_out g) Nameless
@@ -128,10 +128,10 @@ plainly_nameless befores.Declaration = either_means attribute_nameless unnamed_n
 plainly_nameless befores.Name = unnamed_nameless
 
 -- and one that may have one
-declared_spelled : (h : Head) → HeadMarked roles.Declaration h → IfItem (whole.declared h)
-declared_spelled h few = by (nat_eq (number h.name.head) (number heads.LifetimeMarker)) refl
+declared_spelled : (h : FunctionHeader) → HeadMarked roles.Declaration h → IfItem (whole.declared h)
+declared_spelled h few = by (nat_eq (number h.name.kind) (number kinds.LifetimeMarker)) refl
   where
-    by : (b : Bool) → nat_eq (number h.name.head) (number heads.LifetimeMarker) ≡ b → IfItem (cond b None (Some (item.Declaration h)))
+    by : (b : Bool) → nat_eq (number h.name.kind) (number kinds.LifetimeMarker) ≡ b → IfItem (cond b None (Some (item.Declaration h)))
     by true e = tt
     by false e = (few.0 e, few.1)
 

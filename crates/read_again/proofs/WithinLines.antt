@@ -8,7 +8,7 @@ use Rattle.ir_bodies.specs.declared.opcodes.Opcode.{Opcode}
 use Rattle.ir_bodies.specs.declared.opcodes.Opcode.TheVariants as opcodes
 use Rattle.ir_bodies.specs.declared.opcodes.Operation.{Operation}
 use Rattle.ir_bodies.specs.declared.opcodes.Operation.TheVariants as operations
-use Rattle.ir_lex.specs.Heads.{width_of}
+use Rattle.ir_lex.specs.TokenKinds.{width_of}
 use Rattle.ir_lex.specs.Tok.{Tok}
 use Rattle.ir_instructions.specs.Addressing.{slots_fit}
 use Rattle.ir_instructions.specs.Addressing.{fitting, many_slots, one_slot, reserving, slots_behind}

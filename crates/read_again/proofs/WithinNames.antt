@@ -5,18 +5,18 @@ use Rattle.std.specs.List.{AllByRecursion as Each, list_all}
 use Rattle.std.specs.Str.{bytes_eq}
 use Rattle.std.proofs.lemmas.Bool.{and_parts, eqb-true}
 use Rattle.ir_lex.specs.Bytes.{has, run, starts_name}
-use Rattle.ir_lex.specs.Heads.{begins_with, defines_local, global_head, head_of, is_numbered, name_head, number}
+use Rattle.ir_lex.specs.TokenKinds.{begins_with, defines_local, global_kind, kind_of, is_numbered, name_kind, number}
 use Rattle.ir_lex.specs.Lexing.{is_bad, opens}
 use Rattle.ir_lex.specs.Quotes.{content, has_zero, is_zero_name, stripped, unescaped}
 use Rattle.ir_lex.specs.Rows.{bare_len, behind, best_fit, closed, dots_len, fit, label_len, longest, meta_len, name_len, number_len, other_len, rest_fit, string_len, word_len}
 use Rattle.ir_lex.specs.Tok.{Tok}
 use Rattle.ir_lex.specs.declared.bytes.Set.{Set}
 use Rattle.ir_lex.specs.declared.bytes.Set.TheVariants.{Digits, Inside, LabelBytes}
-use Rattle.ir_lex.specs.declared.head.Head.{Head}
-use Rattle.ir_lex.specs.declared.head.Head.TheVariants as heads
+use Rattle.ir_lex.specs.declared.token_kind.TokenKind.{TokenKind}
+use Rattle.ir_lex.specs.declared.token_kind.TokenKind.TheVariants as kinds
 use Rattle.ir_lex.specs.declared.rows.Fit.{Fit}
-use Rattle.ir_lex.specs.declared.token.Kind.{Kind}
-use Rattle.ir_lex.specs.declared.token.Kind.TheVariants as kinds
+use Rattle.ir_lex.specs.declared.token.TokenForm.{TokenForm}
+use Rattle.ir_lex.specs.declared.token.TokenForm.TheVariants as forms
 use Rattle.ir_names.specs.Keys.{is_numeral}
 use Rattle.ir_names.specs.Symbols.{symbol_name, trimmed}
 use Rattle.ir_operands.specs.Values.{GLOBAL}
@@ -94,12 +94,12 @@ bare_no_zero b bs e =
 
 -- a row of the table: where it is that of a global's name, it is so long
 record Row (n : ℕ) (f : Fit) : Type 0 where
-  long : f.kind ≡ kinds.Global → f.len ≡ n
+  long : f.form ≡ forms.Global → f.len ≡ n
 
-own_row : (n : ℕ) → Row n (fit kinds.Global n)
+own_row : (n : ℕ) → Row n (fit forms.Global n)
 own_row n = record { long = λ e. refl }
 
-other_row : (n : ℕ) (kind : Kind) (len : ℕ) → (kind ≡ kinds.Global → ⊥) → Row n (fit kind len)
+other_row : (n : ℕ) (kind : TokenForm) (len : ℕ) → (kind ≡ forms.Global → ⊥) → Row n (fit kind len)
 other_row n kind len apart = record { long = λ e. absurd (apart e) }
 
 better_row : (n : ℕ) (longer : Bool) (a b : Fit) → Row n a → Row n b → Row n (cond longer b a)
@@ -113,39 +113,39 @@ longest_row n f (g ∷ gs) h hs = better_row n (nat_lt f.len (longest g gs).len)
 -- the rows behind those of labels and numbers
 abbrev rows : List ℕ → List Fit
 rows bs =
-    fit kinds.Word (word_len bs)
-    ∷ fit kinds.Local (behind 37 name_len bs)
-    ∷ fit kinds.Global (behind 64 name_len bs)
-    ∷ fit kinds.Comdat (behind 36 name_len bs)
-    ∷ fit kinds.Meta (meta_len bs)
-    ∷ fit kinds.Group (behind 35 (run Digits) bs)
-    ∷ fit kinds.Str (string_len bs)
-    ∷ fit kinds.CStr (behind 99 string_len bs)
-    ∷ fit kinds.Dots (dots_len bs)
-    ∷ fit kinds.Other (other_len bs)
+    fit forms.Word (word_len bs)
+    ∷ fit forms.Local (behind 37 name_len bs)
+    ∷ fit forms.Global (behind 64 name_len bs)
+    ∷ fit forms.Comdat (behind 36 name_len bs)
+    ∷ fit forms.Meta (meta_len bs)
+    ∷ fit forms.Group (behind 35 (run Digits) bs)
+    ∷ fit forms.Str (string_len bs)
+    ∷ fit forms.CStr (behind 99 string_len bs)
+    ∷ fit forms.Dots (dots_len bs)
+    ∷ fit forms.Other (other_len bs)
     ∷ []
 
 each_row : (bs : List ℕ) → Each (Row (behind 64 name_len bs)) (rows bs)
 each_row bs =
     let n = behind 64 name_len bs in (
-      other_row n kinds.Word (word_len bs) (λ e. cc),
+      other_row n forms.Word (word_len bs) (λ e. cc),
       (
-        other_row n kinds.Local (behind 37 name_len bs) (λ e. cc),
+        other_row n forms.Local (behind 37 name_len bs) (λ e. cc),
         (
           own_row n,
           (
-            other_row n kinds.Comdat (behind 36 name_len bs) (λ e. cc),
+            other_row n forms.Comdat (behind 36 name_len bs) (λ e. cc),
             (
-              other_row n kinds.Meta (meta_len bs) (λ e. cc),
+              other_row n forms.Meta (meta_len bs) (λ e. cc),
               (
-                other_row n kinds.Group (behind 35 (run Digits) bs) (λ e. cc),
+                other_row n forms.Group (behind 35 (run Digits) bs) (λ e. cc),
                 (
-                  other_row n kinds.Str (string_len bs) (λ e. cc),
+                  other_row n forms.Str (string_len bs) (λ e. cc),
                   (
-                    other_row n kinds.CStr (behind 99 string_len bs) (λ e. cc),
+                    other_row n forms.CStr (behind 99 string_len bs) (λ e. cc),
                     (
-                      other_row n kinds.Dots (dots_len bs) (λ e. cc),
-                      (other_row n kinds.Other (other_len bs) (λ e. cc), tt),
+                      other_row n forms.Dots (dots_len bs) (λ e. cc),
+                      (other_row n forms.Other (other_len bs) (λ e. cc), tt),
                     ),
                   ),
                 ),
@@ -160,8 +160,8 @@ best_row : (bs : List ℕ) → Row (behind 64 name_len bs) (best_fit bs)
 unfolding best_fit rest_fit
 best_row bs =
     let n = behind 64 name_len bs in
-    better_row n (nat_lt (label_len bs) (rest_fit bs).len) (fit kinds.Label (label_len bs)) (rest_fit bs) (other_row n kinds.Label (label_len bs) (λ e. cc))
-    (longest_row n (fit kinds.Number (number_len bs)) (rows bs) (other_row n kinds.Number (number_len bs) (λ e. cc)) (each_row bs))
+    better_row n (nat_lt (label_len bs) (rest_fit bs).len) (fit forms.Label (label_len bs)) (rest_fit bs) (other_row n forms.Label (label_len bs) (λ e. cc))
+    (longest_row n (fit forms.Number (number_len bs)) (rows bs) (other_row n forms.Number (number_len bs) (λ e. cc)) (each_row bs))
 
 record GlobalText (text after : List ℕ) : Type 0 where
   rest : List ℕ
@@ -183,7 +183,7 @@ take_front [] (y ∷ ys) = refl
 take_front (x ∷ xs) ys = ap (λ (more : List ℕ). x ∷ more) (take_front xs ys)
 
 -- what it stands for
-said_no_zero : (rest after : List ℕ) → length rest ≡ name_len (rest ++ after) → is_zero_name kinds.Global (64 ∷ rest) ≡ false → has_zero (content kinds.Global (64 ∷ rest)) ≡ false
+said_no_zero : (rest after : List ℕ) → length rest ≡ name_len (rest ++ after) → is_zero_name forms.Global (64 ∷ rest) ≡ false → has_zero (content forms.Global (64 ∷ rest)) ≡ false
 unfolding content is_zero_name
 said_no_zero [] after long z = refl
 said_no_zero (c ∷ []) after long z = by (nat_eq c 34) refl
@@ -238,7 +238,7 @@ digits_no_zero [] h = tt
 digits_no_zero (d ∷ ds) h = (digit_some d h.0, digits_no_zero ds h.1)
 
 digits_ordinary : (ds : List ℕ) → AllDigits ds → IsOrdinary ds
-unfolding name_head
+unfolding name_kind
 digits_ordinary [] h = refl
 digits_ordinary (d ∷ ds) h = rw (digit_no_l d h.0) refl
 
@@ -264,54 +264,54 @@ numbered_numeral (d ∷ ds) h = run_all (d ∷ ds) (and_parts (nat_lt 0 (length 
 
 -- ---- names
 
-head_ordinary : (name : List ℕ) → contains GLOBAL (number (name_head name)) ≡ true → IsOrdinary name
-unfolding name_head
+head_ordinary : (name : List ℕ) → contains GLOBAL (number (name_kind name)) ≡ true → IsOrdinary name
+unfolding name_kind
 head_ordinary name c = by (bytes_eq name (codes "llvm.lifetime.start.p0") || bytes_eq name (codes "llvm.lifetime.end.p0")) (bytes_eq name (codes "llvm") || begins_with (codes "llvm.") name) c
   where
-    by : (t u : Bool) → contains GLOBAL (number (cond t heads.LifetimeMarker (cond u heads.ReservedGlobal heads.Global))) ≡ true → cond t heads.LifetimeMarker (cond u heads.ReservedGlobal heads.Global) ≡ heads.Global
+    by : (t u : Bool) → contains GLOBAL (number (cond t kinds.LifetimeMarker (cond u kinds.ReservedGlobal kinds.Global))) ≡ true → cond t kinds.LifetimeMarker (cond u kinds.ReservedGlobal kinds.Global) ≡ kinds.Global
     by true u c = absurd cc
     by false true c = absurd cc
     by false false c = refl
 
-named_by : (rest after : List ℕ) → AllBytes (64 ∷ rest) → length rest ≡ name_len (rest ++ after) → is_zero_name kinds.Global (64 ∷ rest) ≡ false → contains GLOBAL (number (global_head (64 ∷ rest) after)) ≡ true
-    → IsWritable (cond (is_numeral rest) (trimmed rest) (content kinds.Global (64 ∷ rest)))
-unfolding global_head
+named_by : (rest after : List ℕ) → AllBytes (64 ∷ rest) → length rest ≡ name_len (rest ++ after) → is_zero_name forms.Global (64 ∷ rest) ≡ false → contains GLOBAL (number (global_kind (64 ∷ rest) after)) ≡ true
+    → IsWritable (cond (is_numeral rest) (trimmed rest) (content forms.Global (64 ∷ rest)))
+unfolding global_kind
 named_by rest after bytes long z c = by (is_numeral rest) refl
   where
-    apart : (t : Bool) → is_numbered rest ≡ t → is_numeral rest ≡ false → contains GLOBAL (number (cond t (cond (defines_local after) heads.NumberedDefinition heads.NumberedGlobal) (name_head (content kinds.Global (64 ∷ rest))))) ≡ true → IsOrdinary (content kinds.Global (64 ∷ rest))
+    apart : (t : Bool) → is_numbered rest ≡ t → is_numeral rest ≡ false → contains GLOBAL (number (cond t (cond (defines_local after) kinds.NumberedDefinition kinds.NumberedGlobal) (name_kind (content forms.Global (64 ∷ rest))))) ≡ true → IsOrdinary (content forms.Global (64 ∷ rest))
     apart true g e c = absurd (let no : true ≡ false = sym (numbered_numeral rest g) ∙ e in cc)
-    apart false g e c = head_ordinary (content kinds.Global (64 ∷ rest)) c
+    apart false g e c = head_ordinary (content forms.Global (64 ∷ rest)) c
 
-    by : (t : Bool) → is_numeral rest ≡ t → IsWritable (cond t (trimmed rest) (content kinds.Global (64 ∷ rest)))
+    by : (t : Bool) → is_numeral rest ≡ t → IsWritable (cond t (trimmed rest) (content forms.Global (64 ∷ rest)))
     by true e =
         let digits = trimmed_digits rest (numeral_digits rest e) in
         (record { bytes = digits_bytes (trimmed rest) digits; no_zero = no_zero (trimmed rest) (digits_no_zero (trimmed rest) digits) }, digits_ordinary (trimmed rest) digits)
-    by false e = (record { bytes = content_bytes kinds.Global (64 ∷ rest) bytes; no_zero = said_no_zero rest after long z }, apart (is_numbered rest) refl e c)
+    by false e = (record { bytes = content_bytes forms.Global (64 ∷ rest) bytes; no_zero = said_no_zero rest after long z }, apart (is_numbered rest) refl e c)
 
 -- a token before this text, of the kind and class of a global's name
-global_named : (text after : List ℕ) → AllBytes text → is_bad (text ++ after) ≡ false → best_fit (text ++ after) ≡ record { kind = kinds.Global; len = length text } → contains GLOBAL (number (head_of kinds.Global text after)) ≡ true
-    → IsWritable (cond (is_numeral (drop 1 text)) (trimmed (drop 1 text)) (content kinds.Global text))
-unfolding is_bad head_of
+global_named : (text after : List ℕ) → AllBytes text → is_bad (text ++ after) ≡ false → best_fit (text ++ after) ≡ record { form = forms.Global; len = length text } → contains GLOBAL (number (kind_of forms.Global text after)) ≡ true
+    → IsWritable (cond (is_numeral (drop 1 text)) (trimmed (drop 1 text)) (content forms.Global text))
+unfolding is_bad kind_of
 global_named text after bytes good fits c =
     let here : List ℕ = text ++ after in
-    let parts = false_parts (nat_eq (best_fit here).len 0) (opens here) (is_zero_name (best_fit here).kind (take (best_fit here).len here)) good in
+    let parts = false_parts (nat_eq (best_fit here).len 0) (opens here) (is_zero_name (best_fit here).form (take (best_fit here).len here)) good in
     let some : nat_eq (length text) 0 ≡ false = sym (ap (λ (f : Fit). nat_eq f.len 0) fits) ∙ parts.0 in
-    let zero_free : is_zero_name kinds.Global text ≡ false = sym (ap (λ (f : Fit). is_zero_name f.kind (take f.len here)) fits ∙ ap (is_zero_name kinds.Global) (take_front text after)) ∙ parts.1 in
-    let long : length text ≡ behind 64 name_len here = sym (ap (λ (f : Fit). f.len) fits) ∙ (best_row here).long (ap (λ (f : Fit). f.kind) fits) in
+    let zero_free : is_zero_name forms.Global text ≡ false = sym (ap (λ (f : Fit). is_zero_name f.form (take f.len here)) fits ∙ ap (is_zero_name forms.Global) (take_front text after)) ∙ parts.1 in
+    let long : length text ≡ behind 64 name_len here = sym (ap (λ (f : Fit). f.len) fits) ∙ (best_row here).long (ap (λ (f : Fit). f.form) fits) in
     let g = global_text text after some long in
-    subst (λ (x : List ℕ). IsWritable (cond (is_numeral (drop 1 x)) (trimmed (drop 1 x)) (content kinds.Global x))) (sym g.whole)
-    (named_by g.rest after (subst AllBytes g.whole bytes) g.long (sym (ap (is_zero_name kinds.Global) g.whole) ∙ zero_free) (subst (λ (x : List ℕ). contains GLOBAL (number (global_head x after)) ≡ true) g.whole c))
+    subst (λ (x : List ℕ). IsWritable (cond (is_numeral (drop 1 x)) (trimmed (drop 1 x)) (content forms.Global x))) (sym g.whole)
+    (named_by g.rest after (subst AllBytes g.whole bytes) g.long (sym (ap (is_zero_name forms.Global) g.whole) ∙ zero_free) (subst (λ (x : List ℕ). contains GLOBAL (number (global_kind x after)) ≡ true) g.whole c))
   where
     false_parts : (a b c : Bool) → a || (b || c) ≡ false → (a ≡ false) × (c ≡ false)
     false_parts false false c e = (refl, e)
     false_parts false true c e = absurd cc
     false_parts true b c e = absurd cc
 
-pub name_fits : (t : Tok) (after : List ℕ) → AllBytes t.text → is_bad (t.text ++ after) ≡ false → best_fit (t.text ++ after) ≡ record { kind = t.kind; len = length t.text } → t.head ≡ head_of t.kind t.text after → contains GLOBAL (number t.head) ≡ true → IsWritable (symbol_name t)
+pub name_fits : (t : Tok) (after : List ℕ) → AllBytes t.text → is_bad (t.text ++ after) ≡ false → best_fit (t.text ++ after) ≡ record { form = t.form; len = length t.text } → t.kind ≡ kind_of t.form t.text after → contains GLOBAL (number t.kind) ≡ true → IsWritable (symbol_name t)
 unfolding symbol_name
 name_fits t after bytes good fits head c =
-    let class : contains GLOBAL (number (head_of t.kind t.text after)) ≡ true = subst (λ (h : Head). contains GLOBAL (number h) ≡ true) head c in
-    let kind : t.kind ≡ kinds.Global = is_global t.kind t.text after class in
-    subst (λ (k : Kind). IsWritable (cond (is_numeral (stripped k t.text)) (trimmed (stripped k t.text)) (content k t.text))) (sym kind)
-    (global_named t.text after bytes good (subst (λ (k : Kind). best_fit (t.text ++ after) ≡ record { kind = k; len = length t.text }) kind fits)
-    (subst (λ (k : Kind). contains GLOBAL (number (head_of k t.text after)) ≡ true) kind class))
+    let class : contains GLOBAL (number (kind_of t.form t.text after)) ≡ true = subst (λ (h : TokenKind). contains GLOBAL (number h) ≡ true) head c in
+    let kind : t.form ≡ forms.Global = is_global t.form t.text after class in
+    subst (λ (k : TokenForm). IsWritable (cond (is_numeral (stripped k t.text)) (trimmed (stripped k t.text)) (content k t.text))) (sym kind)
+    (global_named t.text after bytes good (subst (λ (k : TokenForm). best_fit (t.text ++ after) ≡ record { form = k; len = length t.text }) kind fits)
+    (subst (λ (k : TokenForm). contains GLOBAL (number (kind_of k t.text after)) ≡ true) kind class))

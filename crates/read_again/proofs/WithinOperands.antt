@@ -1,10 +1,10 @@
 -- Operands and arguments that the grammar spells are of the types that stand before them.
 use Rattle.std.proofs.Common.{◌≡◌, ◌∙◌, ℕ, ◌&&◌, true, inl, inr, Option, Some, None, option_map, Ok, refl, sym, subst}
 use Rattle.std.proofs.lemmas.Bool.{and_parts, eqb-true}
-use Rattle.ir_lex.specs.Heads.{number}
+use Rattle.ir_lex.specs.TokenKinds.{number}
 use Rattle.ir_lex.specs.Tok.{Tok}
-use Rattle.ir_lex.specs.declared.head.Head.{Head}
-use Rattle.ir_lex.specs.declared.head.Head.TheVariants as heads
+use Rattle.ir_lex.specs.declared.token_kind.TokenKind.{TokenKind}
+use Rattle.ir_lex.specs.declared.token_kind.TokenKind.TheVariants as kinds
 use Rattle.ir_read.specs.Alphabet.{contains}
 use Rattle.ir_read.specs.Rules.{is_exact}
 use Rattle.ir_read.specs.Literals.{literal}
@@ -26,8 +26,8 @@ pub bit_is : Means bit (λ w. w ≡ 1)
 unfolding is_exact
 bit_is =
     token_means (λ t w s h.
-    let yes = accepted (contains INTEGER (number t.head) && is_bit t) (Ok (width t)) (type_refusal (number t.head)) w h in
-    let same : width t ≡ w = cc (yes.1) in sym same ∙ eqb-true (width t) 1 (and_parts (contains INTEGER (number t.head)) (is_bit t) yes.0).1)
+    let yes = accepted (contains INTEGER (number t.kind) && is_bit t) (Ok (width t)) (type_refusal (number t.kind)) w h in
+    let same : width t ≡ w = cc (yes.1) in sym same ∙ eqb-true (width t) 1 (and_parts (contains INTEGER (number t.kind)) (is_bit t) yes.0).1)
 
 -- ---- operands
 
@@ -48,20 +48,20 @@ global_spelled : (r : Reg) (t : Option Tok) (o : Operand) → option_map operand
 global_spelled r None o e = absurd cc
 global_spelled r (Some t) o e = let same : operands.Global t ≡ o = cc in subst (OperandSpelled r) same tt
 
-by_class : (head : Head) (r : Reg) (t : Tok) (o : Operand) → operand_by head r t ≡ Some o → OperandSpelled r o
-by_class heads.Number r t o e = bits_spelled r t o e
-by_class heads.Local r t o e = local_spelled r (named t) o e
-by_class heads.True r t o e = let same : operands.Number 1 1 ≡ o = cc in subst (OperandSpelled r) same (inl refl)
-by_class heads.False r t o e = let same : operands.Number 1 0 ≡ o = cc in subst (OperandSpelled r) same (inl refl)
-by_class heads.Null r t o e = let same : operands.Null ≡ o = cc in subst (OperandSpelled r) same tt
-by_class heads.Poison r t o e = let same : operands.Poison r ≡ o = cc in subst (OperandSpelled r) same refl
-by_class heads.Global r t o e = let same : operands.Global t ≡ o = cc in subst (OperandSpelled r) same tt
-by_class heads.NumberedGlobal r t o e = global_spelled r (named t) o e
-by_class heads.NumberedDefinition r t o e = global_spelled r (named t) o e
+by_class : (head : TokenKind) (r : Reg) (t : Tok) (o : Operand) → operand_by head r t ≡ Some o → OperandSpelled r o
+by_class kinds.Number r t o e = bits_spelled r t o e
+by_class kinds.Local r t o e = local_spelled r (named t) o e
+by_class kinds.True r t o e = let same : operands.Number 1 1 ≡ o = cc in subst (OperandSpelled r) same (inl refl)
+by_class kinds.False r t o e = let same : operands.Number 1 0 ≡ o = cc in subst (OperandSpelled r) same (inl refl)
+by_class kinds.Null r t o e = let same : operands.Null ≡ o = cc in subst (OperandSpelled r) same tt
+by_class kinds.Poison r t o e = let same : operands.Poison r ≡ o = cc in subst (OperandSpelled r) same refl
+by_class kinds.Global r t o e = let same : operands.Global t ≡ o = cc in subst (OperandSpelled r) same tt
+by_class kinds.NumberedGlobal r t o e = global_spelled r (named t) o e
+by_class kinds.NumberedDefinition r t o e = global_spelled r (named t) o e
 by_class head r t o e = absurd cc
 
-pub token_spelled : (r : Reg) (t : Tok) (o : Operand) → operand_by t.head r t ≡ Some o → OperandSpelled r o
-token_spelled r t o e = by_class t.head r t o e
+pub token_spelled : (r : Reg) (t : Tok) (o : Operand) → operand_by t.kind r t ≡ Some o → OperandSpelled r o
+token_spelled r t o e = by_class t.kind r t o e
 
 simple_spelled : (r : Reg) → Means (simple r) (OperandSpelled r)
 simple_spelled r = valued_means _ _ (λ t o s e. token_spelled r t o e)

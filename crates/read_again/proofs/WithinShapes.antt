@@ -3,7 +3,7 @@ use Rattle.std.proofs.Common.{◌≡◌, ℕ, zero, suc, ◌-◌, ◌%◌, ◌<�
 use Rattle.std.specs.List.{AllByRecursion as Each}
 use Rattle.std.proofs.lemmas.Bool.{ltb-true}
 use Rattle.std.proofs.lemmas.Nat.{pow_pos}
-use Rattle.ir_lex.specs.Heads.{number}
+use Rattle.ir_lex.specs.TokenKinds.{number}
 use Rattle.ir_lex.specs.Rows.{begins}
 use Rattle.ir_lex.specs.Tok.{Tok}
 use Rattle.ir_read.specs.Classes.{tokens}
@@ -85,11 +85,11 @@ scalar_counted t = by (shapes.is_pointer t)
 
 leaf_counted : (room : Room) → Means (leaf room) TypedCounted
 unfolding is_leaf is_valued
-leaf_counted room = token_means (λ t a s h. by t a (contains SCALAR (number t.head) && has_room room t) h)
+leaf_counted room = token_means (λ t a s h. by t a (contains SCALAR (number t.kind) && has_room room t) h)
   where
     by : (t : Tok) (a : Typed) (b : Bool) → cond b (Ok (scalar_typed t)) (is_valued tokens memory_refusal LOCAL type_name t) ≡ Ok a → TypedCounted a
     by t a true e = let same : scalar_typed t ≡ a = cc in subst TypedCounted same (scalar_counted t)
-    by t a false e = let yes = accepted (contains LOCAL (number t.head)) (in_range (type_name t)) (memory_refusal (number t.head)) a e in name_counted t a (valued (type_name t) a yes.1)
+    by t a false e = let yes = accepted (contains LOCAL (number t.kind)) (in_range (type_name t)) (memory_refusal (number t.kind)) a e in name_counted t a (valued (type_name t) a yes.1)
 
 parts_counted : (ss : List Written) → Each Counted ss → AllCounted (parts_of ss)
 parts_counted [] h = tt

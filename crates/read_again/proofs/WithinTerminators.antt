@@ -1,8 +1,8 @@
 -- Terminators that the grammar spells: constants are of the types that stand before them.
 use Rattle.std.proofs.Common.{◌≡◌, ℕ, inl, inr, Option, Some, None, refl, subst}
 use Rattle.ir_lex.specs.Tok.{Tok}
-use Rattle.ir_lex.specs.declared.head.Head.{Head}
-use Rattle.ir_lex.specs.declared.head.Head.TheVariants as heads
+use Rattle.ir_lex.specs.declared.token_kind.TokenKind.{TokenKind}
+use Rattle.ir_lex.specs.declared.token_kind.TokenKind.TheVariants as kinds
 use Rattle.ir_read.specs.Literals.{literal}
 use Rattle.ir_operands.specs.ShapeForms.{memory_shape}
 use Rattle.ir_instructions.specs.Terminators.{behind_end, branching, case, case_of, constant, matched, matched_by, matched_number, returned, returning, switching, terminator}
@@ -40,14 +40,14 @@ number_matched : (r : Reg) (t : Tok) (m : Matched) → matched_number r t ≡ So
 number_matched (Int w) t m e = from_literal (matched w) (MatchedTyped (Int w)) (λ n. inr refl) (literal w t.text) m e
 number_matched Ptr t m e = absurd cc
 
-matched_class : (head : Head) (r : Reg) (t : Tok) (m : Matched) → matched_by head r t ≡ Some m → MatchedTyped r m
-matched_class heads.Number r t m e = number_matched r t m e
-matched_class heads.True r t m e = let same : matched 1 1 ≡ m = cc in subst (MatchedTyped r) same (inl refl)
-matched_class heads.False r t m e = let same : matched 1 0 ≡ m = cc in subst (MatchedTyped r) same (inl refl)
+matched_class : (head : TokenKind) (r : Reg) (t : Tok) (m : Matched) → matched_by head r t ≡ Some m → MatchedTyped r m
+matched_class kinds.Number r t m e = number_matched r t m e
+matched_class kinds.True r t m e = let same : matched 1 1 ≡ m = cc in subst (MatchedTyped r) same (inl refl)
+matched_class kinds.False r t m e = let same : matched 1 0 ≡ m = cc in subst (MatchedTyped r) same (inl refl)
 matched_class head r t m e = absurd cc
 
 constant_typed : (r : Reg) → Means (constant r) (MatchedTyped r)
-constant_typed r = valued_means _ _ (λ t m s e. matched_class t.head r t m e)
+constant_typed r = valued_means _ _ (λ t m s e. matched_class t.kind r t m e)
 
 case_of_spelled : (r : Reg) → Means (case_of r) CaseSpelled
 unfolding case_of

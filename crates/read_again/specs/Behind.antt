@@ -1,7 +1,7 @@
 -- The word that an instruction begins with, and what the grammar has behind it (LangRef, "Instruction Reference").
 use Rattle.ir_lex.specs.Tok.{Tok}
-use Rattle.ir_lex.specs.declared.head.Head.{Head}
-use Rattle.ir_lex.specs.declared.head.Head.TheVariants as heads
+use Rattle.ir_lex.specs.declared.token_kind.TokenKind.{TokenKind}
+use Rattle.ir_lex.specs.declared.token_kind.TokenKind.TheVariants as kinds
 use Rattle.ir_tree.specs.declared.instr.BinaryOp.{BinaryOp}
 use Rattle.ir_tree.specs.declared.instr.BinaryOp.TheVariants as binary
 use Rattle.ir_tree.specs.declared.instr.CastOp.{CastOp}
@@ -38,18 +38,18 @@ behind_conversion casts.Sext = extending memory_shape casts.Sext
 behind_conversion casts.Trunc = narrowing memory_shape casts.Trunc
 
 -- the class of its word
-abbrev pub word_class : Instr → Head
+abbrev pub word_class : Instr → TokenKind
 word_class (Binary op flags w left right) = binary_class op
-word_class (Icmp predicate reg left right) = heads.Icmp
+word_class (Icmp predicate reg left right) = kinds.Icmp
 word_class (Cast op from value to) = cast_class op
-word_class (Select condition if_true if_false) = heads.Select
-word_class (Freeze reg value) = heads.Freeze
-word_class (Alloca shape align) = heads.Alloca
-word_class (Load reg address align) = heads.Load
-word_class (Store reg value address align) = heads.Store
-word_class (Address inbounds shape base indices) = heads.GetElementPtr
-word_class (Call result callee arguments) = heads.Call
-word_class (Phi reg edges) = heads.Phi
+word_class (Select condition if_true if_false) = kinds.Select
+word_class (Freeze reg value) = kinds.Freeze
+word_class (Alloca shape align) = kinds.Alloca
+word_class (Load reg address align) = kinds.Load
+word_class (Store reg value address align) = kinds.Store
+word_class (Address inbounds shape base indices) = kinds.GetElementPtr
+word_class (Call result callee arguments) = kinds.Call
+word_class (Phi reg edges) = kinds.Phi
 
 -- nothing of a call
 abbrev pub behind_word : Instr → Form Tok raw.Instr

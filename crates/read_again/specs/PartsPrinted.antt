@@ -2,7 +2,7 @@
 -- the rest is as it stands in the tree (LangRef, "Identifiers", "Instruction Reference").
 use Rattle.std.specs.Prelude.{◌≡◌, ℕ, false, Option, Some, None, List, [], ◌∷◌, ◌++◌, decimal}
 use Rattle.ir_lex.specs.Tok.{Tok}
-use Rattle.ir_lex.specs.declared.token.Kind.TheVariants as kinds
+use Rattle.ir_lex.specs.declared.token.TokenForm.TheVariants as forms
 use Rattle.ir_tree.specs.Forms.{Form, Forms, int, pointer, array, structure, no_parts, part}
 use Rattle.ir_tree.specs.Names.{quoted}
 use Rattle.ir_tree.specs.declared.block.Case.{Case}
@@ -26,7 +26,7 @@ use Rattle.ir_read.specs.declared.address.Steps.{Steps}
 use Rattle.ir_heads.specs.declared.attributes.Kept.{Kept}
 use Rattle.ir_read.specs.declared.raw.Argument as raw_argument
 use Rattle.ir_read.specs.declared.raw.Case as raw_case
-use Rattle.ir_read.specs.declared.raw.Head.{Head}
+use Rattle.ir_read.specs.declared.raw.FunctionHeader.{FunctionHeader}
 use Rattle.ir_read.specs.declared.raw.Incoming as raw_incoming
 use Rattle.ir_read.specs.declared.raw.Instr as raw_instr
 use Rattle.ir_read.specs.declared.raw.Instr.TheVariants as ri
@@ -49,17 +49,17 @@ Paired R (a ∷ as') (b ∷ bs) = R a b × Paired R as' bs
 
 -- the name of a local or a block that is its number
 pub record IsNumber (n : ℕ) (name : Tok) : Type 0 where
-  pub kind : name.kind ≡ kinds.Local
+  pub form : name.form ≡ forms.Local
   pub text : name.text ≡ 37 ∷ decimal n
 
 -- a label that is the number of its block
 pub record IsLabel (n : ℕ) (name : Tok) : Type 0 where
-  pub kind : name.kind ≡ kinds.Label
+  pub form : name.form ≡ forms.Label
   pub text : name.text ≡ decimal n ++ 58 ∷ []
 
 -- the name of a global as it is printed
 pub record IsGlobal (bytes : List ℕ) (name : Tok) : Type 0 where
-  pub kind : name.kind ≡ kinds.Global
+  pub form : name.form ≡ forms.Global
   pub text : name.text ≡ 64 ∷ quoted bytes
 
 -- ---- shapes
@@ -153,7 +153,7 @@ IsType p q = (q.reg ≡ p.reg) × (q.name ≡ None)
 -- ---- heads of functions
 
 -- what stands before the attributes and the body of a function
-pub record IsHead (f : Function) (h : Head) : Type 0 where
+pub record IsHead (f : Function) (h : FunctionHeader) : Type 0 where
   pub linkage : h.linkage ≡ f.linkage
   pub result : h.result ≡ f.result
   pub name : IsGlobal f.symbol.name h.name
@@ -163,7 +163,7 @@ pub record IsHead (f : Function) (h : Head) : Type 0 where
   pub groups : h.groups ≡ []
 
 -- the same of a declaration
-pub record IsDeclared (f : Function) (h : Head) : Type 0 where
+pub record IsDeclared (f : Function) (h : FunctionHeader) : Type 0 where
   pub linkage : h.linkage ≡ External
   pub result : h.result ≡ f.result
   pub name : IsGlobal f.symbol.name h.name
@@ -180,7 +180,7 @@ IsKept f k = k ≡ record { noinline = f.noinline; optnone = f.optnone; groups =
 
 -- a string as it is printed
 pub record IsString (bytes : List ℕ) (string : Tok) : Type 0 where
-  pub kind : string.kind ≡ kinds.Str
+  pub form : string.form ≡ forms.Str
   pub text : string.text ≡ 34 ∷ closed bytes
 
 abbrev pub IsLayout : List ℕ → Item → Type 0

@@ -11,12 +11,12 @@ use Rattle.ir_tree.specs.declared.operand.Argument.{Argument}
 use Rattle.ir_tree.specs.declared.operand.Operand.{Operand}
 use Rattle.ir_tree.specs.declared.operand.Reg.{Reg}
 use Rattle.ir_read.specs.declared.raw.Block as raw_block
-use Rattle.ir_read.specs.declared.raw.Head.{Head}
+use Rattle.ir_read.specs.declared.raw.FunctionHeader.{FunctionHeader}
 use Rattle.ir_read.specs.declared.raw.Instr as raw_instr
 use Rattle.ir_read.specs.declared.raw.Instr.TheVariants as ri
 use Rattle.ir_read.specs.declared.raw.Item.{Item}
 use Rattle.ir_read.specs.declared.raw.Item.TheVariants as items
-use Rattle.ir_read.specs.declared.raw.Line as raw_line
+use Rattle.ir_read.specs.declared.raw.WrittenLine as raw_line
 use Rattle.read_again.specs.Bodies.{stated}
 use Rattle.read_again.specs.PartsPrinted.{Paired, IsLabel, IsGlobal, IsNamed, IsOperand, IsArgument, IsInstr, IsTerminator, IsParam, IsDeclared}
 
@@ -39,7 +39,7 @@ abbrev pub IsBound : Option ℕ → Option Tok → Type 0
 IsBound None name = name ≡ None
 IsBound (Some n) name = IsNamed n name
 
-abbrev pub IsLine : Line → raw_line.Line → Type 0
+abbrev pub IsLine : Line → raw_line.WrittenLine → Type 0
 IsLine l r = IsBound l.local r.name × IsInstruction l.instr r.instr
 
 -- ---- blocks
@@ -69,7 +69,7 @@ AreBlocks (b ∷ bs) (r ∷ rs) = IsEntry b r × Paired IsLabelled bs rs
 -- ---- functions
 
 -- what stands before the body of a definition
-pub record IsDefined (f : Function) (h : Head) : Type 0 where
+pub record IsDefined (f : Function) (h : FunctionHeader) : Type 0 where
   pub linkage : h.linkage ≡ f.linkage
   pub result : h.result ≡ f.result
   pub name : IsGlobal f.symbol.name h.name

@@ -5,7 +5,7 @@ use Rattle.std.specs.List.{AllByRecursion as Each}
 use Rattle.named_values.specs.Blocks.{as_phi}
 use Rattle.ir_names.specs.declared.locals.Sort.{Sort}
 use Rattle.ir_names.specs.declared.locals.Sort.TheVariants.{Value, Block}
-use Rattle.ir_tree.specs.Flow.{targets}
+use Rattle.ir_tree.specs.Flow.{successors}
 use Rattle.ir_tree.specs.Formed.{ResultFormed}
 use Rattle.ir_tree.specs.Items.{reads, taken, end_reads}
 use Rattle.ir_tree.specs.Initials.{Initial, Initials, plain, zeros, bytes, elements, members, no_initials, initial}
@@ -43,7 +43,7 @@ pub record LineKnown (ss : List Sort) (l : Line) : Type 0 where
 
 pub record EndKnown (ss : List Sort) (t : Terminator) : Type 0 where
   pub operands : Each (ArgumentKnown ss) (end_reads t)
-  pub targets : Each (IsDefinedAs ss Block) (targets t)
+  pub targets : Each (IsDefinedAs ss Block) (successors t)
 
 -- no phi stands first behind the phis
 abbrev pub FirstIsNoPhi : List Line → Type 0

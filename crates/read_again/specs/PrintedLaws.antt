@@ -5,14 +5,14 @@ use Rattle.ir_parse.specs.Modules.{whole_module}
 use Rattle.ir_lex.specs.Lexing.{AreTokens}
 use Rattle.ir_lex.specs.Quotes.{content}
 use Rattle.ir_lex.specs.Tok.{Tok}
-use Rattle.ir_lex.specs.declared.token.Kind.{Kind}
+use Rattle.ir_lex.specs.declared.token.TokenForm.{TokenForm}
 use Rattle.ir_read.specs.declared.raw.Item.{Item}
 use Rattle.ir_tree.specs.Names.{AllBytes}
 use Rattle.read_again.specs.Spelled.{ItemsSpelled}
 use Rattle.read_again.specs.Tokens.{IsCut}
 
 abbrev pub ContentsAreBytes : Type 0
-ContentsAreBytes = (kind : Kind) (text : List ℕ) → AllBytes text → AllBytes (content kind text)
+ContentsAreBytes = (kind : TokenForm) (text : List ℕ) → AllBytes text → AllBytes (content kind text)
 
 abbrev pub TokensAreCut : Type 0
 TokensAreCut = (bytes : List ℕ) (ts : List Tok) → AllBytes bytes → AreTokens bytes ts → Each IsCut ts

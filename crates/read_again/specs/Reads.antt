@@ -7,7 +7,7 @@ use Rattle.read_again.specs.Texts.{tokens_before}
 
 -- whatever stands behind these pieces, and on whatever line they begin, their tokens spell by the form a value that has the
 -- property
-pub record Reads {A : Type 0} (g : Form Tok A) (P : A → Type 0) (ps : List Piece) : Type 0 where
+pub record Parses {A : Type 0} (g : Form Tok A) (P : A → Type 0) (ps : List Piece) : Type 0 where
   pub value : (behind : List Piece) (line : ℕ) → (a : A) × g (tokens_before behind line ps) a × P a
 
 -- nothing is asked of a value

@@ -15,7 +15,7 @@ use Rattle.ir_heads.specs.Targets.{fits_layout}
 use Rattle.ir_read.specs.declared.raw.Argument.{Argument}
 use Rattle.ir_read.specs.declared.raw.Block.{Block}
 use Rattle.ir_read.specs.declared.raw.Case.{Case}
-use Rattle.ir_read.specs.declared.raw.Head.{Head}
+use Rattle.ir_read.specs.declared.raw.FunctionHeader.{FunctionHeader}
 use Rattle.ir_read.specs.declared.raw.Incoming.{Incoming}
 use Rattle.ir_read.specs.declared.raw.Init.{Init}
 use Rattle.ir_read.specs.declared.raw.InitHead.{InitHead}
@@ -26,7 +26,7 @@ use Rattle.ir_read.specs.declared.raw.Instr.{Instr}
 use Rattle.ir_read.specs.declared.raw.Instr.TheVariants as instr
 use Rattle.ir_read.specs.declared.raw.Item.{Item}
 use Rattle.ir_read.specs.declared.raw.Item.TheVariants as item
-use Rattle.ir_read.specs.declared.raw.Line.{Line}
+use Rattle.ir_read.specs.declared.raw.WrittenLine.{WrittenLine}
 use Rattle.ir_read.specs.declared.raw.Operand.{Operand}
 use Rattle.ir_read.specs.declared.raw.Operand.TheVariants as operand
 use Rattle.ir_read.specs.declared.raw.Terminator.{Terminator}
@@ -90,7 +90,7 @@ InstrSpelled (instr.Store reg value address align) = OperandSpelled reg value ×
 InstrSpelled (instr.Address inbounds typed base indices) = Counted typed.shape × OperandSpelled Ptr base × Each ArgumentSpelled indices
 InstrSpelled (instr.Call result callee arguments) = OperandSpelled Ptr callee × Each ArgumentSpelled arguments
 
-abbrev pub LineSpelled : Line → Type 0
+abbrev pub LineSpelled : WrittenLine → Type 0
 LineSpelled l = InstrSpelled l.instr
 
 abbrev pub CaseSpelled : Case → Type 0
@@ -115,13 +115,13 @@ pub record BodySpelled (bs : List Block) : Type 0 where
   pub few_lines : lines_in bs ≤ INSTRUCTIONS
   pub all : Each BlockSpelled bs
 
-abbrev pub FewParams : Head → Type 0
+abbrev pub FewParams : FunctionHeader → Type 0
 FewParams h = length h.params ≤ suc FURTHER_PARAMETERS
 
 abbrev pub NameSpelled : Tok → Type 0
 NameSpelled t = IsWritable (symbol_name t)
 
-abbrev pub HeadSpelled : Head → Type 0
+abbrev pub HeadSpelled : FunctionHeader → Type 0
 HeadSpelled h = NameSpelled h.name × FewParams h
 
 -- ---- variables
@@ -148,7 +148,7 @@ InitSpelled s (Some i) = BeginningSpelled s i.root × Each PartSpelled i.parts
 -- ---- items
 
 abbrev pub LayoutSpelled : Tok → Type 0
-LayoutSpelled t = OfBytes t × (fits_layout (content t.kind t.text) ≡ true)
+LayoutSpelled t = OfBytes t × (fits_layout (content t.form t.text) ≡ true)
 
 abbrev pub ItemSpelled : Item → Type 0
 ItemSpelled (item.Datalayout string) = LayoutSpelled string

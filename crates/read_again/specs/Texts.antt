@@ -1,7 +1,7 @@
 -- The tokens of printed text.
 use Rattle.std.specs.Prelude.{ℕ, suc, List, [], ◌∷◌, ◌++◌}
 use Rattle.ir_lex.specs.Blanks.{line_behind}
-use Rattle.ir_lex.specs.Heads.{head_of}
+use Rattle.ir_lex.specs.TokenKinds.{kind_of}
 use Rattle.ir_lex.specs.Pieces.{Piece, ends_at}
 use Rattle.ir_lex.specs.Tok.{Tok}
 
@@ -15,10 +15,10 @@ abbrev pub tokens_before : List Piece → ℕ → List Piece → List Tok
 tokens_before behind line [] = []
 tokens_before behind line (p ∷ ps) =
     record {
-      kind = p.kind;
+      form = p.form;
       text = p.first ∷ p.others;
       line = line_behind line p.blank;
-      head = head_of p.kind (p.first ∷ p.others) [];
+      kind = kind_of p.form (p.first ∷ p.others) [];
       ends_line = ends_at (line_behind (line_behind line p.blank) (p.first ∷ p.others)) (ps ++ behind);
     }
     ∷ tokens_before behind (line_behind (line_behind line p.blank) (p.first ∷ p.others)) ps

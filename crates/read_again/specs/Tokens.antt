@@ -1,6 +1,6 @@
 -- The tokens of a text of bytes (LangRef, "Identifiers").
 use Rattle.std.specs.Prelude.{◌≡◌, ℕ, true, List}
-use Rattle.ir_lex.specs.Heads.{number}
+use Rattle.ir_lex.specs.TokenKinds.{number}
 use Rattle.ir_lex.specs.Tok.{Tok}
 use Rattle.ir_names.specs.Symbols.{symbol_name}
 use Rattle.ir_operands.specs.Values.{GLOBAL}
@@ -19,4 +19,4 @@ IsWritable name = IsName name × IsOrdinary name
 -- a token of bytes; one of a global's class stands for a name that can be written
 pub record IsCut (t : Tok) : Type 0 where
   pub bytes : OfBytes t
-  pub named : contains GLOBAL (number t.head) ≡ true → IsWritable (symbol_name t)
+  pub named : contains GLOBAL (number t.kind) ≡ true → IsWritable (symbol_name t)

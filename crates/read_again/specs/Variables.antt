@@ -1,7 +1,7 @@
 -- What is read of printed variables and their initialisers (LangRef, "Global Variables", "Complex Constants").
 use Rattle.std.specs.Prelude.{◌≡◌, ℕ, Option, Some, None, List, [], ◌∷◌}
 use Rattle.ir_lex.specs.Tok.{Tok}
-use Rattle.ir_lex.specs.declared.token.Kind.TheVariants as kinds
+use Rattle.ir_lex.specs.declared.token.TokenForm.TheVariants as forms
 use Rattle.ir_print.specs.Tokens.{closed}
 use Rattle.ir_read.specs.declared.raw.Init as raw_init
 use Rattle.ir_read.specs.declared.raw.InitHead as raw_head
@@ -25,7 +25,7 @@ use Rattle.read_again.specs.PartsPrinted.{Paired, IsGlobal, IsOperand, written_s
 
 -- a string of bytes as it is printed
 pub record IsBytes (bytes : List ℕ) (string : Tok) : Type 0 where
-  pub kind : string.kind ≡ kinds.CStr
+  pub form : string.form ≡ forms.CStr
   pub text : string.text ≡ 99 ∷ 34 ∷ closed bytes
 
 abbrev pub IsInitHead : InitHead → raw_head.InitHead → Type 0

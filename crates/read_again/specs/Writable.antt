@@ -1,6 +1,6 @@
 -- Items of functions whose names and numbers can be written, and items that are read again.
 use Rattle.std.specs.Prelude.{All, List, [], ◌∷◌}
-use Rattle.ir_tree.specs.Flow.{targets}
+use Rattle.ir_tree.specs.Flow.{successors}
 use Rattle.ir_tree.specs.Formed.{IsReg}
 use Rattle.ir_tree.specs.Items.{Item, phi_item, line_item, end_item, operands}
 use Rattle.ir_tree.specs.declared.instr.Incoming.{Incoming}
@@ -31,7 +31,7 @@ InstrWritable _ = Unit {0}
 abbrev pub KindWritable : Item → Type 0
 KindWritable (phi_item b phi) = EntriesWritable phi.incoming
 KindWritable (line_item b k l) = InstrWritable l.instr
-KindWritable (end_item b t) = All IsSmall (targets t)
+KindWritable (end_item b t) = All IsSmall (successors t)
 
 pub record ItemWritable (item : Item) : Type 0 where
   pub operands : All (λ a. OperandWritable a.operand) (operands item)

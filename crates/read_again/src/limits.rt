@@ -2,7 +2,7 @@
 //!
 //! Laws that tie the grammar's forms (`ir_read`, `ir_bodies`, `ir_globals`, `ir_parse`) to what a
 //! printer needs. They go over the tokens of a text of bytes: each of them is bytes, and the name
-//! that one of a global's class stands for is bytes without a zero byte and isn't kept for LLVM
+//! that one of a global's kind stands for is bytes without a zero byte and isn't kept for LLVM
 //! itself. From a whole module on down: each item that the grammar spells has such names, counts
 //! below 2^64, phis with an entry, strings of bytes and a data layout that is supported, and there are
 //! so many names, parameters, blocks and instructions as the grammar takes. The laws are functions
@@ -16,7 +16,7 @@ pub fn contents_are_bytes()
     ensures { ContentsAreBytes }
 {}
 
-/// The tokens of a text of bytes: each is bytes, and one of a global's class stands for a name that
+/// The tokens of a text of bytes: each is bytes, and one of a global's kind stands for a name that
 /// can be written (LangRef, "Identifiers").
 pub fn tokens_are_cut()
     ensures { TokensAreCut }

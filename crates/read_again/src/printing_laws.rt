@@ -40,34 +40,34 @@ ghost use Rattle.read_again.specs.Readable.{CallReadable, LineReadable, BodyRead
 ghost use Rattle.read_again.specs.Variables.{IsInit, IsVariableItem};
 ghost use Rattle.read_again.specs.VariablesReadable.{InitialReadable, VariableReadable};
 ghost use Rattle.read_again.specs.PartsPrinted.{written_shape};
-ghost use Rattle.read_again.specs.Reads.{Reads};
+ghost use Rattle.read_again.specs.Reads.{Parses};
 ghost use Rattle.read_again.specs.Texts.{tokens_in};
 
 /// A printed call is read behind its word, with a name before it or not, and is never dropped
 /// (LangRef, "call Instruction").
 pub fn calls_are_read()
-    ensures { (named : Bool) (answer : Option Reg) (callee : Operand) (arguments : List Argument) → CallReadable answer callee arguments → Reads (calling memory_shape named) (IsSomeWith (IsInstruction (Call answer callee arguments))) (types.result answer ++ (operand space callee ++ (mark tight 40 ++ (all_typed arguments ++ mark tight 41)))) }
+    ensures { (named : Bool) (answer : Option Reg) (callee : Operand) (arguments : List Argument) → CallReadable answer callee arguments → Parses (calling memory_shape named) (IsSomeWith (IsInstruction (Call answer callee arguments))) (types.result answer ++ (operand space callee ++ (mark tight 40 ++ (all_typed arguments ++ mark tight 41)))) }
 {}
 
 /// A printed line, an instruction with the name of its result, is read and kept (LangRef,
 /// "Instruction Reference").
 pub fn lines_are_read()
-    ensures { (l : Line) → LineReadable l → Reads (line local slots_fit memory_shape) (IsSomeWith (IsLine l)) (line_of l.local l.instr) }
+    ensures { (l : Line) → LineReadable l → Parses (line local slots_fit memory_shape) (IsSomeWith (IsLine l)) (line_of l.local l.instr) }
 {}
 
 /// Printed blocks are read within limits on how many there are behind the entry and how many
 /// instructions stand in them, and so is a definition, within those of the grammar and one on its
 /// parameters (LangRef, "Functions").
 pub fn definitions_are_read()
-    ensures blocks { (further room : ℕ) (bs : List Block) → BodyReadable bs → length bs ≤ suc further → instructions bs ≤ room → Reads (blocks further room) (AreBlocks bs) (printed.blocks bs) }
-    ensures definition { (room : ℕ) (f : Function) → DefinitionReadable room f → Reads (definition room) (IsDefinition f) (functions.definition f) }
+    ensures blocks { (further room : ℕ) (bs : List Block) → BodyReadable bs → length bs ≤ suc further → instructions bs ≤ room → Parses (blocks further room) (AreBlocks bs) (printed.blocks bs) }
+    ensures definition { (room : ℕ) (f : Function) → DefinitionReadable room f → Parses (definition room) (IsDefinition f) (functions.definition f) }
 {}
 
 /// Printed initialisers are read, nested as deep as they may be, and so are variables (LangRef,
 /// "Global Variables" and "Complex Constants").
 pub fn variables_are_read()
-    ensures initialiser { (f : Form) (v : Initial) → InitialReadable f v → Reads (initialiser memory_shape (scalar_of (written_shape f))) (IsInit v) (variables.value v) }
-    ensures variable { (v : Variable) → VariableReadable v → Reads (variable_line variable_name memory_shape) (IsVariableItem v) (variables.variable v) }
+    ensures initialiser { (f : Form) (v : Initial) → InitialReadable f v → Parses (initialiser memory_shape (scalar_of (written_shape f))) (IsInit v) (variables.value v) }
+    ensures variable { (v : Variable) → VariableReadable v → Parses (variable_line variable_name memory_shape) (IsVariableItem v) (variables.variable v) }
 {}
 
 /// The tokens of a printed module spell, by the grammar of whole modules, the items that are printed,

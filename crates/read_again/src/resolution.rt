@@ -9,7 +9,7 @@ ghost use Rattle.ir_names.specs.Types.{Types};
 ghost use Rattle.ir_names.specs.Variables.{variable_in};
 ghost use Rattle.ir_names.specs.declared.groups.Groups.{Groups};
 ghost use Rattle.ir_read.specs.declared.raw.Block as raw_block;
-ghost use Rattle.ir_read.specs.declared.raw.Head.{Head};
+ghost use Rattle.ir_read.specs.declared.raw.FunctionHeader.{FunctionHeader};
 ghost use Rattle.ir_read.specs.declared.raw.Variable as raw_variable;
 ghost use Rattle.ir_tree.specs.Formed.{DeclarationFormed, Formed};
 ghost use Rattle.ir_tree.specs.Items.{items};
@@ -32,8 +32,8 @@ use ir_edit::text_order_counts;
 /// resolves to that function, whatever types and attribute groups the module has (LangRef,
 /// "Identifiers" and "Functions").
 pub fn functions_resolve()
-    ensures definition { (types : Types) (groups : Groups) (room : ℕ) (f : Function) (h : Head) (blocks : List raw_block.Block) → DefinitionReadable room f → FunctionKnown f → IsDefined f h → AreBlocks f.blocks blocks → function_in types h blocks (is_noinline groups h) (is_optnone groups h) ≡ Ok f }
-    ensures declaration { (types : Types) (groups : Groups) (room : ℕ) (f : Function) (h : Head) → f.blocks ≡ [] → DeclarationFormed f → HeadReadable room f → FunctionKnown f → IsDeclared f h → function_in types h [] (is_noinline groups h) (is_optnone groups h) ≡ Ok f }
+    ensures definition { (types : Types) (groups : Groups) (room : ℕ) (f : Function) (h : FunctionHeader) (blocks : List raw_block.Block) → DefinitionReadable room f → FunctionKnown f → IsDefined f h → AreBlocks f.blocks blocks → function_in types h blocks (is_noinline groups h) (is_optnone groups h) ≡ Ok f }
+    ensures declaration { (types : Types) (groups : Groups) (room : ℕ) (f : Function) (h : FunctionHeader) → f.blocks ≡ [] → DeclarationFormed f → HeadReadable room f → FunctionKnown f → IsDeclared f h → function_in types h [] (is_noinline groups h) (is_optnone groups h) ≡ Ok f }
 {}
 
 /// What is read of a printed variable resolves to that variable, with its initialiser (LangRef,

@@ -1,6 +1,6 @@
 -- Causes that imply others.
 use Rattle.std.proofs.Common.{ℕ, List, OnOk, Result, Ok, Err}
-use Rattle.lto_fault.specs.declared.kind.Kind.{Kind}
+use Rattle.lto_fault.specs.declared.kind.RefusalKind.{RefusalKind}
 use Rattle.lto_fault.specs.declared.refusal.Refusal.{Refusal}
 use Rattle.lto_fault.specs.declared.refusal.Refusal.TheVariants.{Usage, ReadFault, Refused, TargetClash, DuplicateSymbol, KindClash, UndefinedSymbol, NoExport, NameTaken, BadArguments, WriteFault, NoMemory, Undefined, Uninit, OutOfSteps}
 use Rattle.run_program.specs.Causes.{Because, Causes, Comes, OnNoMemory, OnReadFault, OnRefused, OnUnfit, OnUnlinked, OnUnreturned, OnUnused, OnUnwritten, OnUsage, OnWriteFault, always, free}
@@ -10,7 +10,7 @@ pub record Implies (k l : Causes) : Type 0 where
   pub done : k.done → l.done
   pub usage : k.usage → l.usage
   pub unread : (name : List ℕ) → k.unread name → l.unread name
-  pub refused : (file : List ℕ) (line : ℕ) (kind : Kind) → k.refused file line kind → l.refused file line kind
+  pub refused : (file : List ℕ) (line : ℕ) (kind : RefusalKind) → k.refused file line kind → l.refused file line kind
   pub unlinked : (why : Refusal) → k.unlinked why → l.unlinked why
   pub unfit : (name : List ℕ) → k.unfit name → l.unfit name
   pub unwritten : (name : List ℕ) → k.unwritten name → l.unwritten name
@@ -86,7 +86,7 @@ module _ {A : Type 0} (k : Causes) (r : Result A Refusal) (h : Comes k r) where
       on_ok (Err e) d = tt
 
   -- nothing was taken from the input or printed before each answer that says so
-  pub on_unused : (P : Type 0) → (k.usage → P) → ((file : List ℕ) (line : ℕ) (kind : Kind) → k.refused file line kind → P) → ((why : Refusal) → k.unlinked why → P) → ((name : List ℕ) → k.unfit name → P) → OnUnused r P
+  pub on_unused : (P : Type 0) → (k.usage → P) → ((file : List ℕ) (line : ℕ) (kind : RefusalKind) → k.refused file line kind → P) → ((why : Refusal) → k.unlinked why → P) → ((name : List ℕ) → k.unfit name → P) → OnUnused r P
   on_unused P usage refused unlinked unfit =
       comes_map {k = k} {l = record free { usage = P; refused = λ file line kind. P; unlinked = λ why. P; unfit = λ name. P }}
       (record { done = λ x. tt; usage = usage; unread = λ n x. tt; refused = refused; unlinked = unlinked; unfit = unfit; unwritten = λ n x. tt; unreturned = λ w x. tt; memory = λ x. tt }) r h

@@ -16,7 +16,7 @@ use Rattle.ir_interp.specs.declared.end.RunEnd.{RunEnd}
 use Rattle.ir_interp.specs.declared.end.RunFault.{RunFault}
 use Rattle.ir_interp.specs.declared.end.RunFault.TheVariants as fault
 use Rattle.ir_meaning.specs.Programs.{program_of}
-use Rattle.lto_fault.specs.declared.cause.Cause.{Cause}
+use Rattle.ir_tree.specs.declared.cause.Cause.{Cause}
 use Rattle.lto_fault.specs.declared.refusal.Refusal.{Refusal}
 use Rattle.lto_fault.specs.declared.refusal.Refusal.TheVariants.{Undefined, Uninit}
 use Rattle.lto_fault.specs.declared.returned.Returned as line

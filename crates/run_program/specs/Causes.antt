@@ -1,6 +1,6 @@
 -- What has to hold for each answer of a command.
 use Rattle.std.specs.Prelude.{ℕ, List, Result, Ok, Err, ⊤}
-use Rattle.lto_fault.specs.declared.kind.Kind.{Kind}
+use Rattle.lto_fault.specs.declared.kind.RefusalKind.{RefusalKind}
 use Rattle.lto_fault.specs.declared.refusal.Refusal.{Refusal}
 use Rattle.lto_fault.specs.declared.refusal.Refusal.TheVariants.{Usage, ReadFault, Refused, TargetClash, DuplicateSymbol, KindClash, UndefinedSymbol, NoExport, NameTaken, BadArguments, WriteFault, NoMemory, Undefined, Uninit, OutOfSteps}
 
@@ -9,7 +9,7 @@ pub record Causes : Type 1 where
   pub done : Type 0
   pub usage : Type 0
   pub unread : List ℕ → Type 0
-  pub refused : List ℕ → ℕ → Kind → Type 0
+  pub refused : List ℕ → ℕ → RefusalKind → Type 0
   pub unlinked : Refusal → Type 0
   -- the root of a run isn't a function that takes the arguments
   pub unfit : List ℕ → Type 0
@@ -68,7 +68,7 @@ OnUsage r P = Comes (record free { usage = P }) r
 abbrev pub OnReadFault : {A : Type 0} → Result A Refusal → (List ℕ → Type 0) → Type 0
 OnReadFault r P = Comes (record free { unread = P }) r
 
-abbrev pub OnRefused : {A : Type 0} → Result A Refusal → (List ℕ → ℕ → Kind → Type 0) → Type 0
+abbrev pub OnRefused : {A : Type 0} → Result A Refusal → (List ℕ → ℕ → RefusalKind → Type 0) → Type 0
 OnRefused r P = Comes (record free { refused = P }) r
 
 abbrev pub OnUnlinked : {A : Type 0} → Result A Refusal → (Refusal → Type 0) → Type 0

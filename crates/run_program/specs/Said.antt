@@ -6,12 +6,8 @@ use Rattle.ir_tree.specs.declared.operand.Symbol.{Symbol}
 use Rattle.ir_meaning.specs.Fault as fault
 use Rattle.ir_meaning.specs.Operate.{bits_of}
 use Rattle.ir_meaning.specs.Run.{Ending, Failed, Returned, Running}
-use Rattle.ir_meaning.specs.declared.fault.Cause as meaning
-use Rattle.ir_meaning.specs.declared.fault.Cause.TheVariants as meant
 use Rattle.ir_meaning.specs.declared.value.Value.{Value}
 use Rattle.ir_meaning.specs.declared.value.Value.TheVariants as value
-use Rattle.lto_fault.specs.declared.cause.Cause as told
-use Rattle.lto_fault.specs.declared.cause.Cause.TheVariants as cause
 use Rattle.lto_fault.specs.declared.refusal.Refusal.{Refusal}
 use Rattle.lto_fault.specs.declared.refusal.Refusal.TheVariants.{NoMemory, OutOfSteps, Undefined, Uninit}
 use Rattle.lto_fault.specs.declared.returned.Returned as line
@@ -19,22 +15,8 @@ use Rattle.lto_fault.specs.declared.returned.Returned.TheVariants as said
 
 -- ---- how an ending is told
 
-abbrev pub told_cause : meaning.Cause → told.Cause
-told_cause meant.DivisionByZero = cause.DivisionByZero
-told_cause meant.DivisionOverflow = cause.DivisionOverflow
-told_cause meant.PoisonDivisor = cause.PoisonDivisor
-told_cause meant.BranchOnPoison = cause.PoisonBranch
-told_cause meant.UnreachableReached = cause.ReachedUnreachable
-told_cause meant.CallOfNoFunction = cause.NoFunction
-told_cause meant.CallOfAnotherType = cause.OtherType
-told_cause meant.PoisonArgument = cause.PoisonArgument
-told_cause meant.BadPointer = cause.BadPointer
-told_cause meant.StoreToConstant = cause.ConstantStore
-told_cause meant.OutOfBounds = cause.OutOfBounds
-told_cause meant.Misaligned = cause.Misaligned
-
 abbrev pub failure_refusal : List ℕ → List ℕ → ℕ → fault.Fault → Refusal
-failure_refusal file function instruction (fault.Undefined why) = Undefined function file instruction (told_cause why)
+failure_refusal file function instruction (fault.Undefined why) = Undefined function file instruction why
 failure_refusal file function instruction fault.Uninit = Uninit function file instruction
 
 -- the refusal of a run for so many steps, where it didn't return; symbols are of these files

@@ -11,38 +11,18 @@ ghost use Rattle.machine_code.specs.MemoryAddresses.{key_symbol};
 ghost use Rattle.ir_interp.specs.Scenes.{answer_meant};
 ghost use Rattle.run_program.specs.Arguments.{IsGiven};
 ghost use Rattle.run_program.specs.Files.{file_at, file_in, home_in};
-ghost use Rattle.run_program.specs.Said.{IsTold, answer_said, bits_said, failure_refusal, told_cause, typed_said};
+ghost use Rattle.run_program.specs.Said.{IsTold, answer_said, bits_said, failure_refusal, typed_said};
 
 use crate::literals::number_said;
-use ir_interp::Place;
+use ir_interp::StepPlace;
 use ir_machine::Scalar;
-use ir_meaning::{Cause, Value, bits_of, symbol_of};
-use ir_tree::{GlobalValue, Reg, Text};
+use ir_meaning::{Value, bits_of, symbol_of};
+use ir_tree::{Cause, GlobalValue, Reg, Text};
 use lto_fault::{Refusal, Returned};
 use lto_words::FileName;
 use machine_code::Key;
 use std::alloc::Global;
 use symbol_resolve::Resolution;
-
-/// How undefined behaviour is told.
-fn told_cause(cause: Cause) -> lto_fault::Cause
-    ensures { result ≡ told_cause cause }
-{
-    match cause {
-        Cause::DivisionByZero => lto_fault::Cause::DivisionByZero,
-        Cause::DivisionOverflow => lto_fault::Cause::DivisionOverflow,
-        Cause::PoisonDivisor => lto_fault::Cause::PoisonDivisor,
-        Cause::BranchOnPoison => lto_fault::Cause::PoisonBranch,
-        Cause::UnreachableReached => lto_fault::Cause::ReachedUnreachable,
-        Cause::CallOfNoFunction => lto_fault::Cause::NoFunction,
-        Cause::CallOfAnotherType => lto_fault::Cause::OtherType,
-        Cause::PoisonArgument => lto_fault::Cause::PoisonArgument,
-        Cause::BadPointer => lto_fault::Cause::BadPointer,
-        Cause::StoreToConstant => lto_fault::Cause::ConstantStore,
-        Cause::OutOfBounds => lto_fault::Cause::OutOfBounds,
-        Cause::Misaligned => lto_fault::Cause::Misaligned,
-    }
-}
 
 // ---- what a run returned
 
@@ -129,7 +109,7 @@ pub fn undefined(
     names: &[FileName],
     resolution: &Resolution<'_>,
     cause: Cause,
-    place: Place,
+    place: StepPlace,
 ) -> Refusal
     ensures { IsTold (failure_refusal (file_in names.now resolution.now (symbol_at (symbols globals.now) place.function)) (symbol_at (symbols globals.now) place.function).name place.instruction (fault.Undefined cause)) result }
 {
@@ -142,7 +122,7 @@ pub fn undefined(
             function,
             file,
             instruction: place.instruction,
-            cause: told_cause(cause),
+            cause,
         },
         Err(_) => Refusal::NoMemory,
     }
@@ -154,7 +134,7 @@ pub fn uninit(
     globals: &[GlobalValue],
     names: &[FileName],
     resolution: &Resolution<'_>,
-    place: Place,
+    place: StepPlace,
 ) -> Refusal
     ensures { IsTold (failure_refusal (file_in names.now resolution.now (symbol_at (symbols globals.now) place.function)) (symbol_at (symbols globals.now) place.function).name place.instruction fault.Uninit) result }
 {

@@ -1,7 +1,7 @@
 -- Two functions that have the same blocks where they are reached: each is better than the other.
 use Rattle.std.proofs.Common.{◌≡◌, ℕ, zero, suc, ◌≤◌, nat_eq, Bool, true, false, List, [], ◌∷◌, Some, None, ◌⊎◌, inr, refl, sym, ◌∙◌, ap, arith, if◌then◌else◌}
 use Rattle.std.specs.Prelude.{slice_get}
-use Rattle.ir_tree.specs.Flow.{edges, targets}
+use Rattle.ir_tree.specs.Flow.{edges, successors}
 use Rattle.ir_tree.specs.Rules.{place}
 use Rattle.ir_tree.specs.declared.block.Block.{Block}
 use Rattle.ir_tree.specs.declared.function.Function.{Function}
@@ -27,11 +27,11 @@ find_is (b ∷ bs) n = by (nat_eq b.number n) (find_is bs n)
     by false h = h
 
 -- a block to which a reached one leads is reached
-pub target_reached : (f : Function) (p m : ℕ) (b z : Block) → slice_get f.blocks p ≡ Some b → reached f p ≡ true → 1 ≤ times m (targets b.end) → find_block f.blocks m ≡ Some z → reached f (place f.blocks m) ≡ true
+pub target_reached : (f : Function) (p m : ℕ) (b z : Block) → slice_get f.blocks p ≡ Some b → reached f p ≡ true → 1 ≤ times m (successors b.end) → find_block f.blocks m ≡ Some z → reached f (place f.blocks m) ≡ true
 target_reached f p m b z at_p r leads found =
     let at_m : slice_get f.blocks (place f.blocks m) ≡ Some z = sym (find_is f.blocks m) ∙ found in
     let number : z.number ≡ m = number_found f.blocks m z found in
-    let many : times p (edges f (place f.blocks m)) ≡ times m (targets b.end) = edges_from f (place f.blocks m) z at_m p ∙ ap (out_to z.number) at_p ∙ ap (λ (k : ℕ). times k (targets b.end)) number in
+    let many : times p (edges f (place f.blocks m)) ≡ times m (successors b.end) = edges_from f (place f.blocks m) z at_m p ∙ ap (out_to z.number) at_p ∙ ap (λ (k : ℕ). times k (successors b.end)) number in
     next_reached f p (place f.blocks m) r (among_times p (edges f (place f.blocks m)) (omega (arith, many, leads)))
 
 -- the functions have the same blocks at the places of a set that has the entry, and to which alone those blocks lead
@@ -40,7 +40,7 @@ pub record Agree (first second : Function) (r : ℕ → Bool) : Type 0 where
   pub same : (p : ℕ) → r p ≡ true → slice_get first.blocks p ≡ slice_get second.blocks p
   pub places : (n : ℕ) → place first.blocks n ≡ place second.blocks n
   pub entry : r 0 ≡ true
-  pub next : (p m : ℕ) (y z : Block) → r p ≡ true → slice_get second.blocks p ≡ Some y → 1 ≤ times m (targets y.end) → find_block second.blocks m ≡ Some z → r (place second.blocks m) ≡ true
+  pub next : (p m : ℕ) (y z : Block) → r p ≡ true → slice_get second.blocks p ≡ Some y → 1 ≤ times m (successors y.end) → find_block second.blocks m ≡ Some z → r (place second.blocks m) ≡ true
 
 module _ (first second : Function) (r : ℕ → Bool) (agree : Agree first second r) where
   record Here (a b : Spot) : Type 0 where
@@ -63,7 +63,7 @@ module _ (first second : Function) (r : ℕ → Bool) (agree : Agree first secon
 
   enters : (sig : Signature) (locals : Locals) (a b : Spot) → Here a b → (n : ℕ) (y : Block) → exit_of (value_of sig locals) b.end ≡ Leads' n → find_block second.blocks n ≡ Some y → Enters sig locals a b y n
   enters sig locals a b h n y leads found =
-      let some : 1 ≤ times n (targets h.block.end) = exit_among (value_of sig locals) h.block.end n (ap (exit_of (value_of sig locals)) (sym h.end_is) ∙ leads) in
+      let some : 1 ≤ times n (successors h.block.end) = exit_among (value_of sig locals) h.block.end n (ap (exit_of (value_of sig locals)) (sym h.end_is) ∙ leads) in
       let inside : r (place second.blocks n) ≡ true = agree.next h.at_place n h.block y h.inside h.found some found in (
         y,
         found_too n y inside found,

@@ -23,7 +23,7 @@ use Rattle.ir_meaning.specs.Promote.{Current, Fetches, Makes, Other, Use, Writes
 use Rattle.ir_edit.proofs.Tally.{tally, tally_both, tally_once}
 use Rattle.slot_promote.specs.Promoted.{End, end_at, first_at, new_phis, next_number, phis_from, promoted_with}
 use Rattle.slot_promote.specs.Values.{at_start, behind_line, behind_lines, goes, is_there, placed, rank_of, reg_of, regs, use_of, value_at_start, without_slots}
-use Rattle.slot_promote.specs.declared.slots.Place.{Place}
+use Rattle.slot_promote.specs.declared.slots.SlotRank.{SlotRank}
 use Rattle.slot_promote.specs.declared.slots.Slot.{Slot}
 use Rattle.slot_promote.proofs.Facts.{in_block, in_lines}
 use Rattle.slot_promote.proofs.Lines.{AllTidy, Tidy, both, line_with}
@@ -38,7 +38,7 @@ use Rattle.std.proofs.lemmas.Bool.{eq-eqb, eqb-true, or_left, or_right}
 
 -- ---- lines that go give slots alone their addresses
 
-tidy_line : (at : ℕ → Option Place) (local : Option ℕ) (i : Instr) → ResultFormed i local → Tidy at (record { local = local; instr = i })
+tidy_line : (at : ℕ → Option SlotRank) (local : Option ℕ) (i : Instr) → ResultFormed i local → Tidy at (record { local = local; instr = i })
 tidy_line at local (kind.Binary op flags width left right) r h = absurd cc
 tidy_line at local (kind.Icmp predicate reg left right) r h = absurd cc
 tidy_line at local (kind.Cast op from value to) r h = absurd cc

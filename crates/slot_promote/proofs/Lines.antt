@@ -8,7 +8,7 @@ use Rattle.ir_tree.specs.declared.instr.Phi.{Phi}
 use Rattle.ir_meaning.specs.Promote.{Current}
 use Rattle.ir_edit.proofs.Tally.{tally}
 use Rattle.slot_promote.specs.Values.{behind_line, behind_lines, goes, instr_with, is_there, without_slots}
-use Rattle.slot_promote.specs.declared.slots.Place.{Place}
+use Rattle.slot_promote.specs.declared.slots.SlotRank.{SlotRank}
 use Rattle.slot_promote.proofs.Tests.{clash}
 
 tally_named : (z : ℕ) (o : Option ℕ) (xs ys : List ℕ) → tally z xs ≤ tally z ys → tally z (cons_option o xs) ≤ tally z (cons_option o ys)
@@ -23,7 +23,7 @@ pub taken : {X : Type 0} (xs ys : List X) → take (length xs) (xs ++ ys) ≡ xs
 taken {X} [] ys = refl
 taken {X} (x ∷ xs) ys = ap (λ (r : List X). x ∷ r) (taken xs ys)
 
-module _ (at : ℕ → Option Place) where
+module _ (at : ℕ → Option SlotRank) where
   abbrev pub line_with : Current → Line → Line
   line_with c l = record { local = l.local; instr = instr_with at c l.instr }
 

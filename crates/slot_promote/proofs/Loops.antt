@@ -22,7 +22,7 @@ use Rattle.slot_promote.specs.Slots.{is_accessed_as, promotable, promoted_slots}
 use Rattle.slot_promote.specs.Tables.{end_view, ends_in, first_in, viewed}
 use Rattle.slot_promote.specs.Values.{behind_line, behind_lines, goes, instr_with, is_there, makes, reg_of, regs, placed, without_slots, writes}
 use Rattle.slot_promote.specs.declared.phis.BlockEnd.{BlockEnd}
-use Rattle.slot_promote.specs.declared.slots.Place.{Place}
+use Rattle.slot_promote.specs.declared.slots.SlotRank.{SlotRank}
 use Rattle.slot_promote.specs.declared.slots.Slot.{Slot}
 use Rattle.slot_promote.specs.declared.uses.Use.{Use}
 
@@ -47,18 +47,18 @@ cond_if true x y = refl
 cond_if false x y = refl
 
 -- places are put into the table from the last slot on
-pub placed_before : (list : List Slot) (rank : ℕ) (d : Slot) (table more : ℕ → Option Place) → 0 < rank → rank ≤ length list → ((x : ℕ) → table x ≡ placed rank (drop rank list) x)
+pub placed_before : (list : List Slot) (rank : ℕ) (d : Slot) (table more : ℕ → Option SlotRank) → 0 < rank → rank ≤ length list → ((x : ℕ) → table x ≡ placed rank (drop rank list) x)
     → ((x : ℕ) → more x ≡ cond (nat_eq (get_or list (rank - 1) d).local x) (Some (record { rank = rank - 1; reg = (get_or list (rank - 1) d).reg })) (table x)) → (x : ℕ) → more x ≡ placed (rank - 1) (drop (rank - 1) list) x
 placed_before list rank d table more some most is put x =
     put x
     ∙ cond_if (nat_eq s.local x) (Some here) (table x)
-    ∙ ap (λ (o : Option Place). if nat_eq s.local x then Some here else o) (is x ∙ ap (λ (k : ℕ). placed k (drop rank list) x) next)
+    ∙ ap (λ (o : Option SlotRank). if nat_eq s.local x then Some here else o) (is x ∙ ap (λ (k : ℕ). placed k (drop rank list) x) next)
     ∙ sym (ap (λ (l : List Slot). placed (rank - 1) l x) (drop_more list (rank - 1) d (omega (arith, some, most)) ∙ ap (λ (k : ℕ). s ∷ drop k list) behind))
   where
     s : Slot
     s = get_or list (rank - 1) d
 
-    here : Place
+    here : SlotRank
     here = record { rank = rank - 1; reg = s.reg }
 
     next : rank ≡ suc (rank - 1)
@@ -72,7 +72,7 @@ among_index [] i lt = absurd (omega (arith, lt))
 among_index (x ∷ xs) zero lt = inl refl
 among_index (x ∷ xs) (suc i) lt = inr (among_index xs i (omega (arith, lt)))
 
-pub end_at_index : (at : ℕ → Option Place) (ends : List BlockEnd) (p : ℕ) (d : BlockEnd) → p < length ends → ends_in at ends p ≡ end_view at (get_or ends p d)
+pub end_at_index : (at : ℕ → Option SlotRank) (ends : List BlockEnd) (p : ℕ) (d : BlockEnd) → p < length ends → ends_in at ends p ≡ end_view at (get_or ends p d)
 end_at_index at [] p d lt = absurd (omega (arith, lt))
 end_at_index at (e ∷ ends) zero d lt = refl
 end_at_index at (e ∷ ends) (suc p) d lt = end_at_index at ends p d (omega (arith, lt))
@@ -156,7 +156,7 @@ first_more from k next place firsts more first long is pushed before p less = ap
 
 -- ---- phis
 
-pub entry_pushed : (at : ℕ → Option Place) (ends : List BlockEnd) (local : ℕ) (sources : List ℕ) (i : ℕ) (rows new all : List Incoming) (item : Incoming) (e : BlockEnd)
+pub entry_pushed : (at : ℕ → Option SlotRank) (ends : List BlockEnd) (local : ℕ) (sources : List ℕ) (i : ℕ) (rows new all : List Incoming) (item : Incoming) (e : BlockEnd)
     → i < length sources → get_or sources i 0 < length ends → e ≡ get_or ends (get_or sources i 0) e → item ≡ entry_of local (end_view at e) → new ≡ rows ++ item ∷ []
     → rows ++ entries_of (ends_in at ends) local (drop i sources) ≡ all → new ++ entries_of (ends_in at ends) local (drop (i + 1) sources) ≡ all
 entry_pushed at ends local sources i rows new all item e lt inside e_is item_is pushed before =
@@ -180,22 +180,22 @@ phi_pushed ends from first rank list phis new all s local incoming lt s_is local
 
 -- ---- values
 
-pub made : (at : ℕ → Option Place) (local : ℕ) (o : Option ℕ) (reg : Reg) (has : Bool) (old new : Current) (x : ℕ) → o ≡ Some local → has ≡ is_there (at local) → has ≡ true → reg ≡ reg_of (at local)
+pub made : (at : ℕ → Option SlotRank) (local : ℕ) (o : Option ℕ) (reg : Reg) (has : Bool) (old new : Current) (x : ℕ) → o ≡ Some local → has ≡ is_there (at local) → has ≡ true → reg ≡ reg_of (at local)
     → new x ≡ changed local (Poison reg) old x → new x ≡ behind (regs at) (makes at o) old x
 made at local o reg has old new x o_is has_is there reg_is h =
     h ∙ ap (λ (r : Reg). changed local (Poison r) old x) reg_is ∙ ap (λ (t : Bool). behind (regs at) (if t then Makes local else Other) old x) (sym (sym has_is ∙ there)) ∙ ap (λ (q : Option ℕ). behind (regs at) (makes at q) old x) (sym o_is)
 
-pub stored : (at : ℕ → Option Place) (local : ℕ) (address value copy : Operand) (has : Bool) (old new : Current) (x : ℕ) → address ≡ Local local → has ≡ is_there (at local) → has ≡ true → copy ≡ value
+pub stored : (at : ℕ → Option SlotRank) (local : ℕ) (address value copy : Operand) (has : Bool) (old new : Current) (x : ℕ) → address ≡ Local local → has ≡ is_there (at local) → has ≡ true → copy ≡ value
     → new x ≡ changed local copy old x → new x ≡ behind (regs at) (writes at value address) old x
 stored at local address value copy has old new x address_is has_is there copy_is h =
     h ∙ ap (λ (v : Operand). changed local v old x) copy_is ∙ ap (λ (t : Bool). behind (regs at) (if t then Writes local value else Other) old x) (sym (sym has_is ∙ there)) ∙ ap (λ (a : Operand). behind (regs at) (writes at value a) old x) (sym address_is)
 
-pub passed : (at : ℕ → Option Place) (lines : List Line) (i : ℕ) (l : Line) (old new : Current) → i < length lines → l ≡ get_or lines i l → ((x : ℕ) → new x ≡ behind_line at l old x)
+pub passed : (at : ℕ → Option SlotRank) (lines : List Line) (i : ℕ) (l : Line) (old new : Current) → i < length lines → l ≡ get_or lines i l → ((x : ℕ) → new x ≡ behind_line at l old x)
     → (x : ℕ) → behind_lines at new (drop (i + 1) lines) x ≡ behind_lines at old (drop i lines) x
 passed at lines i l old new lt l_is h x =
     ap (λ (c : Current). behind_lines at c (drop (i + 1) lines) x) (λ j. λ y. h y j) ∙ ap (λ (ls : List Line). behind_lines at old ls x) (sym (drop_more lines i l lt ∙ ap (λ (y : Line). y ∷ drop (i + 1) lines) (sym l_is)))
 
-pub line_pushed : (at : ℕ → Option Place) (lines : List Line) (i : ℕ) (l : Line) (old new : Current) (rows rows' all : List Line) → i < length lines → l ≡ get_or lines i l
+pub line_pushed : (at : ℕ → Option SlotRank) (lines : List Line) (i : ℕ) (l : Line) (old new : Current) (rows rows' all : List Line) → i < length lines → l ≡ get_or lines i l
     → ((rest : List Line) → rows' ++ rest ≡ rows ++ (if goes at l.local l.instr then rest else record { local = l.local; instr = instr_with at old l.instr } ∷ rest)) → ((x : ℕ) → new x ≡ behind_line at l old x)
     → rows ++ without_slots at old (drop i lines) ≡ all → rows' ++ without_slots at new (drop (i + 1) lines) ≡ all
 line_pushed at lines i l old new rows rows' all lt l_is pushed h before =
@@ -220,7 +220,7 @@ first_is [] p d lt = absurd (omega (arith, lt))
 first_is (x ∷ firsts) zero d lt = refl
 first_is (x ∷ firsts) (suc p) d lt = first_is firsts p d (omega (arith, lt))
 
-pub ends_more : (at : ℕ → Option Place) (olds news : List BlockEnd) (v : BlockEnd) (firsts : List (Option ℕ)) (d : Option ℕ) (blocks : List Block) (place : ℕ) (b : Block) → length olds ≡ place → length firsts ≡ length blocks → place < length blocks → b ≡ get_or blocks place b
+pub ends_more : (at : ℕ → Option SlotRank) (olds news : List BlockEnd) (v : BlockEnd) (firsts : List (Option ℕ)) (d : Option ℕ) (blocks : List Block) (place : ℕ) (b : Block) → length olds ≡ place → length firsts ≡ length blocks → place < length blocks → b ≡ get_or blocks place b
     → news ≡ olds ++ v ∷ [] → end_view at v ≡ end_with at (get_or firsts place d) (Some b) → ((p : ℕ) → p < place → ends_in at olds p ≡ ends_with at (first_in firsts) blocks p)
     → (p : ℕ) → p < place + 1 → ends_in at news p ≡ ends_with at (first_in firsts) blocks p
 ends_more at olds news v firsts d blocks place b long same lt b_is pushed v_is before p less = by (nat_eq p place) refl
@@ -241,7 +241,7 @@ ends_more at olds news v firsts d blocks place b long same lt b_is pushed v_is b
         below : (p place : ℕ) → p < place + 1 → (p ≡ place → ⊥) → p < place
         below p place less other = omega (arith, less, other)
 
-pub all_ends : (at : ℕ → Option Place) (ends : List BlockEnd) (first : ℕ → Option ℕ) (blocks : List Block) (place : ℕ) → place ≡ length blocks → length ends ≡ place
+pub all_ends : (at : ℕ → Option SlotRank) (ends : List BlockEnd) (first : ℕ → Option ℕ) (blocks : List Block) (place : ℕ) → place ≡ length blocks → length ends ≡ place
     → ((p : ℕ) → p < place → ends_in at ends p ≡ ends_with at first blocks p) → (p : ℕ) → ends_in at ends p ≡ ends_with at first blocks p
 all_ends at ends first blocks place is long h p = by (nat_lt p place) refl
   where
@@ -253,7 +253,7 @@ all_ends at ends first blocks place is long h p = by (nat_lt p place) refl
 
 -- ---- blocks
 
-pub block_pushed : (at : ℕ → Option Place) (list : List Slot) (ends : ℕ → End) (from : ℕ → List ℕ) (firsts : List (Option ℕ)) (d : Option ℕ) (blocks : List Block) (place : ℕ) (rows rows' all : List Block) (b made' : Block) (edges : List ℕ)
+pub block_pushed : (at : ℕ → Option SlotRank) (list : List Slot) (ends : ℕ → End) (from : ℕ → List ℕ) (firsts : List (Option ℕ)) (d : Option ℕ) (blocks : List Block) (place : ℕ) (rows rows' all : List Block) (b made' : Block) (edges : List ℕ)
     → place < length blocks → place < length firsts → b ≡ get_or blocks place b → edges ≡ from place → made' ≡ block_with at list ends edges (get_or firsts place d) b → rows' ≡ rows ++ made' ∷ []
     → rows ++ blocks_with at list ends from (first_in firsts) place (drop place blocks) ≡ all → rows' ++ blocks_with at list ends from (first_in firsts) (place + 1) (drop (place + 1) blocks) ≡ all
 block_pushed at list ends from firsts d blocks place rows rows' all b made' edges lt inside b_is edges_is made_is pushed before =
@@ -282,7 +282,7 @@ rows_are f graph is b = by (nat_lt b (length f.blocks)) refl
         let le : length f.blocks ≤ b = ltb-false b (length f.blocks) e in
         get_or_past graph b [] (omega (arith, le, is.long)) ∙ sym (ap (leading_to f.blocks) (slice_get_past f.blocks b le))
 
-pub whole_blocks : (at : ℕ → Option Place) (list : List Slot) (from : ℕ → List ℕ) (first : ℕ → Option ℕ) (ends : List BlockEnd) (firsts : List (Option ℕ)) (old : List Block)
+pub whole_blocks : (at : ℕ → Option SlotRank) (list : List Slot) (from : ℕ → List ℕ) (first : ℕ → Option ℕ) (ends : List BlockEnd) (firsts : List (Option ℕ)) (old : List Block)
     → ((p : ℕ) → first_in firsts p ≡ first p) → ((p : ℕ) → ends_in at ends p ≡ ends_with at (first_in firsts) old p)
     → blocks_with at list (ends_in at ends) from (first_in firsts) 0 old ≡ blocks_with at list (ends_with at first old) from first 0 old
 whole_blocks at list from first ends firsts old first_is ends_are = λ i. blocks_with at list (λ p. ends_now p i) from (λ p. first_is p i) 0 old
@@ -290,7 +290,7 @@ whole_blocks at list from first ends firsts old first_is ends_are = λ i. blocks
     ends_now : (p : ℕ) → ends_in at ends p ≡ ends_with at first old p
     ends_now p = ends_are p ∙ ap (λ (o : Option ℕ). end_with at o (slice_get old p)) (first_is p)
 
-pub whole_function : (f : Function) (at : ℕ → Option Place) (list : List Slot) (graph : List (List ℕ)) (n : ℕ) (old : List Block)
+pub whole_function : (f : Function) (at : ℕ → Option SlotRank) (list : List Slot) (graph : List (List ℕ)) (n : ℕ) (old : List Block)
     → ((x : ℕ) → at x ≡ placed 0 (promoted_slots f) x) → list ≡ promoted_slots f → IsGraphOf f graph → n ≡ next_number f → old ≡ f.blocks
     → blocks_with at list (ends_with at (first_phi (row graph) (length list) n) old) (row graph) (first_phi (row graph) (length list) n) 0 old ≡ (promoted_function f).blocks
 whole_function f at list graph n old at_is list_is is n_is old_is = λ i.

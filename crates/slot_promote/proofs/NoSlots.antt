@@ -12,10 +12,10 @@ use Rattle.ir_meaning.specs.Promote.{Current}
 use Rattle.slot_promote.specs.Promoted.{End, blocks_with, end_at, first_at, new_phis, next_number, promoted_function, promoted_with}
 use Rattle.slot_promote.specs.Slots.{promoted_slots}
 use Rattle.slot_promote.specs.Values.{at_start, behind_line, goes, instr_with, is_slot, load_with, local_goes, without_slots}
-use Rattle.slot_promote.specs.declared.slots.Place.{Place}
+use Rattle.slot_promote.specs.declared.slots.SlotRank.{SlotRank}
 use Rattle.slot_promote.specs.declared.slots.Slot.{Slot}
 
-abbrev none : ℕ → Option Place
+abbrev none : ℕ → Option SlotRank
 none x = None
 
 no_local : (local : Option ℕ) → local_goes none local ≡ false

@@ -2,7 +2,7 @@
 use Rattle.std.proofs.Common.{◌≡◌, ℕ, zero, suc, ◌+◌, ◌*◌, ◌≤◌, ◌<◌, nat_eq, Bool, true, false, not, ◌&&◌, ◌||◌, List, [], ◌∷◌, ◌++◌, length, map, Option, Some, None, option_map, inl, inr, refl, sym, ◌∙◌, ap, subst, arith, if◌then◌else◌}
 use Rattle.std.specs.Prelude.{All, slice_get}
 use Rattle.std.proofs.lemmas.Bool.{eqb-true, eq-eqb}
-use Rattle.ir_tree.specs.Flow.{Among, edges, holds, locals, room, targets}
+use Rattle.ir_tree.specs.Flow.{Among, edges, holds, locals, room, successors}
 use Rattle.ir_tree.specs.Formed.{Distinct, ItemFormed, numbers}
 use Rattle.ir_tree.specs.Items.{block_items}
 use Rattle.ir_tree.specs.Rules.{Keeps, Sound, place}
@@ -84,14 +84,14 @@ all_same : (o : Option Block) → option_map (one_of true) o ≡ o
 all_same None = refl
 all_same (Some b) = refl
 
--- ---- targets
+-- ---- successors
 
 case_target : (cs : List Case) (n : ℕ) → InCases cs n → 1 ≤ times n (map (λ c. c.target) cs)
 case_target [] n h = absurd h
 case_target (c ∷ cs) n (inl e) = here n c.target (map (λ c. c.target) cs) e
 case_target (c ∷ cs) n (inr h) = later n c.target (map (λ c. c.target) cs) (case_target cs n h)
 
-is_target : (e : Terminator) (n : ℕ) → IsTarget e n → 1 ≤ times n (targets e)
+is_target : (e : Terminator) (n : ℕ) → IsTarget e n → 1 ≤ times n (successors e)
 is_target (Return argument) n h = absurd h
 is_target (Jump target) n h = here n target [] h
 is_target (Branch condition t f) n (inl h) = here n t (f ∷ []) h
@@ -176,14 +176,14 @@ module _ (f : Function) (ss : List Slot) (n : ℕ) (sound : Sound f) (right : Ar
         (v : ℕ) × ((plan f ss n).starts y.number x ≡ Local v) × (is_phi v ((plan f ss n).news y.number ++ y.phis) ≡ true)
         × (phi_operand v block.number ((plan f ss n).news y.number ++ y.phis) ≡ Some ((plan f ss n).ends block.number x))
 
-    module _ (m : ℕ) (y z : Block) (number : y.number ≡ m) (at_z : slice_get f.blocks (place f.blocks m) ≡ Some z) (z_number : z.number ≡ m) (leads : 1 ≤ times m (targets block.end)) where
+    module _ (m : ℕ) (y z : Block) (number : y.number ≡ m) (at_z : slice_get f.blocks (place f.blocks m) ≡ Some z) (z_number : z.number ≡ m) (leads : 1 ≤ times m (successors block.end)) where
       edge : Among b (edges f (place f.blocks m))
       edge =
-          let many : times b (edges f (place f.blocks m)) ≡ times m (targets block.end) = edges_from f (place f.blocks m) z at_z b ∙ ap (out_to z.number) found ∙ ap (λ (k : ℕ). times k (targets block.end)) z_number in
+          let many : times b (edges f (place f.blocks m)) ≡ times m (successors block.end) = edges_from f (place f.blocks m) z at_z b ∙ ap (out_to z.number) found ∙ ap (λ (k : ℕ). times k (successors block.end)) z_number in
           among_times b (edges f (place f.blocks m)) (omega (arith, many, leads))
 
       no_entry : place f.blocks m ≡ 0 → ⊥
-      no_entry = all_among (λ (k : ℕ). place f.blocks k ≡ 0 → ⊥) m (targets block.end) (in_end (Keeps f EntryBranch) b block (in_block (Keeps f EntryBranch) f b block found (sound.rules EntryBranch))) leads
+      no_entry = all_among (λ (k : ℕ). place f.blocks k ≡ 0 → ⊥) m (successors block.end) (in_end (Keeps f EntryBranch) b block (in_block (Keeps f EntryBranch) f b block found (sound.rules EntryBranch))) leads
 
       abbrev first_number : ℕ
       first_number = free (edges f) (length ss) n (place f.blocks m)
@@ -328,7 +328,7 @@ module _ (f : Function) (ss : List Slot) (n : ℕ) (sound : Sound f) (right : Ar
       by None found = refl
       by (Some b) found = ap (λ (x : Block). Some x) (block_same p b found)
 
-  planned_next : (p m : ℕ) (y z : Block) → reached f p ≡ true → slice_get planned.blocks p ≡ Some y → 1 ≤ times m (targets y.end) → find_block planned.blocks m ≡ Some z → reached f (place planned.blocks m) ≡ true
+  planned_next : (p m : ℕ) (y z : Block) → reached f p ≡ true → slice_get planned.blocks p ≡ Some y → 1 ≤ times m (successors y.end) → find_block planned.blocks m ≡ Some z → reached f (place planned.blocks m) ≡ true
   planned_next p m y z r at_p leads find =
       subst (λ (q : ℕ). reached f q ≡ true) (sym same) (by (was_there (block_promoted (plan f ss n)) (slice_get f.blocks p) y (sym (planned_is p r) ∙ at_p)) (was_there (one_of (reached f (0 + place f.blocks m))) (slice_get f.blocks (place f.blocks m)) w.0 w.1))
     where
@@ -346,7 +346,7 @@ module _ (f : Function) (ss : List Slot) (n : ℕ) (sound : Sound f) (right : Ar
 
       by : (b : Block) × (slice_get f.blocks p ≡ Some b) × (block_promoted (plan f ss n) b ≡ y) → (v : Block) × (slice_get f.blocks (place f.blocks m) ≡ Some v) × (one_of (reached f (0 + place f.blocks m)) v ≡ w.0) → reached f (place f.blocks m) ≡ true
       by (b, at_b, is) (v, at_v, was) =
-          target_reached f p m b v at_b r (subst (λ (e : Terminator). 1 ≤ times m (targets e)) (ap (λ (x : Block). x.end) (sym is)) leads) (find_is f.blocks m ∙ at_v)
+          target_reached f p m b v at_b r (subst (λ (e : Terminator). 1 ≤ times m (successors e)) (ap (λ (x : Block). x.end) (sym is)) leads) (find_is f.blocks m ∙ at_v)
 
   agree_promoted : Agree (promoted_with f ss n) planned (reached f)
   agree_promoted = record {

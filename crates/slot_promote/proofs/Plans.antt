@@ -25,7 +25,7 @@ use Rattle.ir_tree.specs.declared.operand.Reg.{Reg}
 use Rattle.ir_tree.specs.declared.operand.Reg.TheVariants.{Int, Ptr}
 use Rattle.ir_tree.specs.declared.rule.Rule.TheVariants.{NotAvailable, PhiPlace}
 use Rattle.ir_meaning.specs.Facts.{is_local}
-use Rattle.ir_meaning.specs.Needed.{AllKept, EdgesKept, EndReads, IsKept, PhisKept, Reads}
+use Rattle.ir_meaning.specs.Needed.{AllKept, EdgesKept, EndReads, IsKept, PhisKept, UsesKept}
 use Rattle.ir_meaning.specs.Promote.{Current, Fetches, LineRight, LinesRight, LocalFree, Makes, Other, Plan, Use, Writes, behind, behind_all, changed}
 use Rattle.ir_tree.specs.Layout.{size as size_of}
 use Rattle.ir_meaning.specs.Bytes.{reg_size}
@@ -37,7 +37,7 @@ use Rattle.slot_promote.specs.Promoted.{end_at, first_at, new_phis}
 use Rattle.slot_promote.specs.Slots.{is_accessed_as, scalar}
 use Rattle.slot_promote.specs.Uses.{argument_uses, end_uses, entry_uses, instr_uses, operand_uses, phi_uses, uses}
 use Rattle.slot_promote.specs.Values.{at_start, behind_line, behind_lines, fetches, is_there, makes, placed, reg_of, regs, use_of, writes}
-use Rattle.slot_promote.specs.declared.slots.Place.{Place}
+use Rattle.slot_promote.specs.declared.slots.SlotRank.{SlotRank}
 use Rattle.slot_promote.specs.declared.slots.Slot.{Slot}
 use Rattle.slot_promote.specs.declared.uses.Use.{Use as Used}
 use Rattle.slot_promote.proofs.Before.{not_before, tally_held}
@@ -110,7 +110,7 @@ module _ (f : Function) (ss : List Slot) (n : ℕ) (sound : Sound f) (right : Ar
   abbrev t : Plan
   t = plan f ss n
 
-  abbrev at : ℕ → Option Place
+  abbrev at : ℕ → Option SlotRank
   at = placed 0 ss
 
   abbrev IsSlot : ℕ → Type 0
@@ -212,7 +212,7 @@ module _ (f : Function) (ss : List Slot) (n : ℕ) (sound : Sound f) (right : Ar
   LineFits (Makes x) line = IsSlot x × (line.local ≡ Some x) × IsStorable (t.reg x) × (shape : Form) × (align : ℕ) × (line.instr ≡ kind.Alloca shape align) × (size_of shape ≡ reg_size (t.reg x))
   LineFits (Writes x o) line = IsSlot x × IsKept t.keeps o × IsStorable (t.reg x) × (align : ℕ) × (line.instr ≡ kind.Store (t.reg x) o (Local x) align)
   LineFits (Fetches x) line = IsSlot x × ((y : ℕ) → line.local ≡ Some y → is_there (placed 0 ss y) ≡ false) × (align : ℕ) × (line.instr ≡ kind.Load (t.reg x) (Local x) align)
-  LineFits Other line = ((y : ℕ) → line.local ≡ Some y → is_there (placed 0 ss y) ≡ false) × Reads t.keeps line.instr
+  LineFits Other line = ((y : ℕ) → line.local ≡ Some y → is_there (placed 0 ss y) ≡ false) × UsesKept t.keeps line.instr
 
   module _ (b : ℕ) (block : Block) (found : slice_get f.blocks b ≡ Some block) where
     abbrev At : ℕ → Line → Type 0
@@ -250,12 +250,12 @@ module _ (f : Function) (ss : List Slot) (n : ℕ) (sound : Sound f) (right : Ar
       not_alloca : (i : Instr) → l.instr ≡ i → is_alloca i ≡ false → (shape : Form) (align : ℕ) → l.instr ≡ kind.Alloca shape align → ⊥
       not_alloca i is plain_kind shape align e = let both : true ≡ false = sym (ap is_alloca e) ∙ ap is_alloca is ∙ plain_kind in cc both
 
-      plain_line : (i : Instr) → l.instr ≡ i → is_alloca i ≡ false → Reads t.keeps i → LineFits Other l
-      plain_line i is plain_kind kept = (no_slot k l at_k (not_alloca i is plain_kind), subst (Reads t.keeps) (sym is) kept)
+      plain_line : (i : Instr) → l.instr ≡ i → is_alloca i ≡ false → UsesKept t.keeps i → LineFits Other l
+      plain_line i is plain_kind kept = (no_slot k l at_k (not_alloca i is plain_kind), subst (UsesKept t.keeps) (sym is) kept)
 
       alloca_line : (shape : Form) (align : ℕ) → l.instr ≡ kind.Alloca shape align → (o : Option ℕ) → l.local ≡ o → LineFits (makes (placed 0 ss) o) l
       alloca_line shape align is None named =
-          (λ y e. let none : None ≡ Some y = sym named ∙ e in absurd (cc none), subst (Reads t.keeps) (sym is) tt)
+          (λ y e. let none : None ≡ Some y = sym named ∙ e in absurd (cc none), subst (UsesKept t.keeps) (sym is) tt)
       alloca_line shape align is (Some x) named = by (is_there (placed 0 ss x)) refl
         where
           size : (shape' : Form) (align' : ℕ) → l.instr ≡ kind.Alloca shape' align' → scalar shape' ≡ Some (regs at x) → size_of shape ≡ reg_size (regs at x)
@@ -271,7 +271,7 @@ module _ (f : Function) (ss : List Slot) (n : ℕ) (sound : Sound f) (right : Ar
               (s, named, slot_storable x s, shape, align, is, size m.0 m.1 m.2 m.3)
           by false s = (
             λ y e. let both : Some x ≡ Some y = sym named ∙ e in subst (λ (z : ℕ). is_there (placed 0 ss z) ≡ false) (cc both) s,
-            subst (Reads t.keeps) (sym is) tt,
+            subst (UsesKept t.keeps) (sym is) tt,
           )
 
       load_line : (reg : Reg) (address : Operand) (align : ℕ) → l.instr ≡ kind.Load reg address align → AllFit (operand_uses (Some reg) address) → OperandFormed f address → LineFits (fetches (placed 0 ss) address) l

@@ -3,7 +3,7 @@ use Rattle.std.proofs.Common.{◌≡◌, ℕ, zero, suc, ◌+◌, ◌≤◌, ◌
 use Rattle.std.specs.Prelude.{All, IsSome, count_by, slice_get}
 use Rattle.std.proofs.lemmas.Bool.{eq-eqb, eqb-true, or_cases, or_left, or_right}
 use Rattle.std.proofs.lemmas.List.Elements.{All-append, All-cons, All-head, All-nil, All-tail}
-use Rattle.ir_tree.specs.Flow.{Among, AvailableAt, edges, holds, line_count, targets}
+use Rattle.ir_tree.specs.Flow.{Among, AvailableAt, edges, holds, line_count, successors}
 use Rattle.ir_tree.specs.Forms.{Form}
 use Rattle.ir_tree.specs.Formed.{ArgumentFormed, Distinct, InstrFormed, IsBlock, IsReg, ItemFormed, ResultFormed}
 use Rattle.ir_tree.specs.Items.{Item, phi_item, line_item, end_item, block_items, end_reads, items, items_from, lines_from, phi_reads, reads, taken, taken_as, typed}
@@ -24,7 +24,7 @@ use Rattle.ir_tree.specs.declared.operand.Reg.{Reg}
 use Rattle.ir_tree.specs.declared.operand.Reg.TheVariants.{Int, Ptr}
 use Rattle.ir_tree.specs.declared.rule.Rule.{Rule}
 use Rattle.ir_tree.specs.declared.rule.Rule.TheVariants.{TypeMismatch, NotAvailable, PhiEdges, PhiPlace, EntryBranch, Index, Cast, CaseTwice}
-use Rattle.ir_meaning.specs.Needed.{AllKept, EdgesKept, EndReads, IsKept, Reads}
+use Rattle.ir_meaning.specs.Needed.{AllKept, EdgesKept, EndReads, IsKept, UsesKept}
 use Rattle.ir_meaning.specs.Promote.{Current, Fetches, Makes, Other, Use, Writes, chosen_value, put}
 use Rattle.slot_promote.specs.Laws.{PromotedIsSound}
 use Rattle.slot_promote.specs.Promoted.{End, end_at, end_with, entries_of, entry_of, first_at, free, new_phis, next_number, phis_from, promoted_with, takes}
@@ -61,7 +61,7 @@ one_kept keeps a h = kept_arguments keeps (a ∷ []) (h, tt)
 two_kept : (keeps : ℕ → Bool) (a b : Argument) → IsKept keeps a.operand × IsKept keeps b.operand → Kept keeps (a ∷ b ∷ [])
 two_kept keeps a b h = kept_arguments keeps (a ∷ b ∷ []) (h.0, (h.1, tt))
 
-kept_line : (keeps : ℕ → Bool) (i : Instr) → IsNoPhi i → Reads keeps i → Kept keeps (reads i)
+kept_line : (keeps : ℕ → Bool) (i : Instr) → IsNoPhi i → UsesKept keeps i → Kept keeps (reads i)
 kept_line keeps (kind.Binary op flags width left right) n h = two_kept keeps (typed (Int width) left) (typed (Int width) right) h
 kept_line keeps (kind.Icmp predicate reg left right) n h = two_kept keeps (typed reg left) (typed reg right) h
 kept_line keeps (kind.Cast op from value to) n h = one_kept keeps (typed from value) h
@@ -225,7 +225,7 @@ module _ (f : Function) (ss : List Slot) (n : ℕ) (sound : Sound f) (right : Ar
     abbrev start : Current
     start = at_start (placed 0 ss) (first_at f ss n b)
 
-    same_line : (front rest : List Line) (l : Line) → block.lines ≡ front ++ l ∷ rest → slice_get block.lines (length front) ≡ Some l → Reads keeps l.instr → Now (line_item b (moved f ss n (tidy f ss n sound right above) b block found front) l)
+    same_line : (front rest : List Line) (l : Line) → block.lines ≡ front ++ l ∷ rest → slice_get block.lines (length front) ≡ Some l → UsesKept keeps l.instr → Now (line_item b (moved f ss n (tidy f ss n sound right above) b block found front) l)
     same_line front rest l is at_l kept =
         let w : Was (line_item b (length front) l) = line_fact f ss n sound right b block found Was (length front) l at_l was in
         let plain_kind : IsNoPhi l.instr = w.1 PhiPlace in
@@ -470,7 +470,7 @@ module _ (f : Function) (ss : List Slot) (n : ℕ) (sound : Sound f) (right : Ar
 
   end_now : (b : ℕ) (block : Block) → slice_get f.blocks b ≡ Some block → Was (end_item b block.end) → Now (end_item b block.end)
   end_now b block found w = (
-    record { operands = λ k d lt. (new k d lt).formed; sources = All-nil (λ e. IsBlock g e.from); kind = (w.0.kind.0, λ k d lt. block_there (get_or (targets block.end) k d) (w.0.kind.1 k d lt)) },
+    record { operands = λ k d lt. (new k d lt).formed; sources = All-nil (λ e. IsBlock g e.from); kind = (w.0.kind.0, λ k d lt. block_there (get_or (successors block.end) k d) (w.0.kind.1 k d lt)) },
     keeps_rule,
   )
     where
@@ -487,7 +487,7 @@ module _ (f : Function) (ss : List Slot) (n : ℕ) (sound : Sound f) (right : Ar
       keeps_rule NotAvailable = (λ k d lt. (new k d lt).found, All-nil (λ e. IsThereAtEnd g (place g.blocks e.from) e.value))
       keeps_rule PhiEdges = tt
       keeps_rule PhiPlace = tt
-      keeps_rule EntryBranch = λ k d lt here. w.1 EntryBranch k d lt (sym (place_stays f ss n (get_or (targets block.end) k d)) ∙ here)
+      keeps_rule EntryBranch = λ k d lt here. w.1 EntryBranch k d lt (sym (place_stays f ss n (get_or (successors block.end) k d)) ∙ here)
       keeps_rule Index = tt
       keeps_rule Cast = tt
       keeps_rule CaseTwice = w.1 CaseTwice

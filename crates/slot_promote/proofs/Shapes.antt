@@ -1,7 +1,7 @@
 -- The blocks of the promoted function, by their places.
 use Rattle.std.proofs.Common.{◌≡◌, ℕ, zero, suc, ◌+◌, nat_eq, Bool, true, false, List, [], ◌∷◌, ◌++◌, map, Option, Some, None, option_map, refl, ◌∙◌, ap, arith, if◌then◌else◌}
 use Rattle.std.specs.Prelude.{slice_get}
-use Rattle.ir_tree.specs.Flow.{edges, leading, leading_to, repeated, targets}
+use Rattle.ir_tree.specs.Flow.{edges, leading, leading_to, repeated, successors}
 use Rattle.ir_tree.specs.Formed.{numbers}
 use Rattle.ir_tree.specs.Rules.{place}
 use Rattle.ir_tree.specs.declared.block.Block.{Block}
@@ -14,15 +14,15 @@ use Rattle.ir_tree.specs.declared.operand.Operand.TheVariants.{Local, Number, Nu
 use Rattle.ir_meaning.specs.Promote.{Current, Fetches, Makes, Other, Use, Writes, chosen_value, put}
 use Rattle.slot_promote.specs.Promoted.{block_with, blocks_with, end_at, first_at, promoted_with}
 use Rattle.slot_promote.specs.Values.{fetches, goes, instr_with, is_slot, is_there, load_with, local_goes, makes, placed, reg_of, regs, use_of, writes}
-use Rattle.slot_promote.specs.declared.slots.Place.{Place}
+use Rattle.slot_promote.specs.declared.slots.SlotRank.{SlotRank}
 use Rattle.slot_promote.specs.declared.slots.Slot.{Slot}
 
 -- ---- lines, by what they do with slots
 
-abbrev Same : (ℕ → Option Place) → Current → Line → List Line → Use → Bool → Instr → Type 0
+abbrev Same : (ℕ → Option SlotRank) → Current → Line → List Line → Use → Bool → Instr → Type 0
 Same at c l rest action gone i = put (regs at) action c l rest ≡ (if gone then rest else record { local = l.local; instr = i } ∷ rest)
 
-put_alloca : (at : ℕ → Option Place) (c : Current) (l : Line) (rest : List Line) (o : Option ℕ) → Same at c l rest (makes at o) (local_goes at o) l.instr
+put_alloca : (at : ℕ → Option SlotRank) (c : Current) (l : Line) (rest : List Line) (o : Option ℕ) → Same at c l rest (makes at o) (local_goes at o) l.instr
 put_alloca at c l rest None = refl
 put_alloca at c l rest (Some x) = by (is_there (at x))
   where
@@ -30,7 +30,7 @@ put_alloca at c l rest (Some x) = by (is_there (at x))
     by true = refl
     by false = refl
 
-put_store : (at : ℕ → Option Place) (c : Current) (l : Line) (rest : List Line) (value address : Operand) → Same at c l rest (writes at value address) (is_slot at address) l.instr
+put_store : (at : ℕ → Option SlotRank) (c : Current) (l : Line) (rest : List Line) (value address : Operand) → Same at c l rest (writes at value address) (is_slot at address) l.instr
 put_store at c l rest value (Local x) = by (is_there (at x))
   where
     by : (t : Bool) → Same at c l rest (if t then Writes x value else Other) t l.instr
@@ -41,7 +41,7 @@ put_store at c l rest value Null = refl
 put_store at c l rest value (Poison reg) = refl
 put_store at c l rest value (Named symbol offset) = refl
 
-put_load : (at : ℕ → Option Place) (c : Current) (l : Line) (rest : List Line) (address : Operand) → Same at c l rest (fetches at address) false (load_with at c l.instr address)
+put_load : (at : ℕ → Option SlotRank) (c : Current) (l : Line) (rest : List Line) (address : Operand) → Same at c l rest (fetches at address) false (load_with at c l.instr address)
 put_load at c l rest (Local x) = by (is_there (at x))
   where
     by : (t : Bool) → Same at c l rest (if t then Fetches x else Other) false (if t then chosen_value (reg_of (at x)) (c x) else l.instr)
@@ -53,7 +53,7 @@ put_load at c l rest (Poison reg) = refl
 put_load at c l rest (Named symbol offset) = refl
 
 -- as the law puts it
-pub put_is : (at : ℕ → Option Place) (c : Current) (local : Option ℕ) (i : Instr) (rest : List Line)
+pub put_is : (at : ℕ → Option SlotRank) (c : Current) (local : Option ℕ) (i : Instr) (rest : List Line)
     → Same at c (record { local = local; instr = i }) rest (use_of at local i) (goes at local i) (instr_with at c i)
 put_is at c local (kind.Binary op flags width left right) rest = refl
 put_is at c local (kind.Icmp predicate reg left right) rest = refl
@@ -93,7 +93,7 @@ module _ (f : Function) (ss : List Slot) (n : ℕ) where
 
   from_leading : (s m p : ℕ) (bs : List Block) → leading m p (promoted_from s bs) ≡ leading m p bs
   from_leading s m p [] = refl
-  from_leading s m p (b ∷ bs) = ap (λ (l : List ℕ). repeated p m (targets b.end) ++ l) (from_leading (suc s) m (suc p) bs)
+  from_leading s m p (b ∷ bs) = ap (λ (l : List ℕ). repeated p m (successors b.end) ++ l) (from_leading (suc s) m (suc p) bs)
 
   leading_to_stays : (p : ℕ) (o : Option Block) → leading_to (promoted_with f ss n).blocks (option_map (promoted_at p) o) ≡ leading_to f.blocks o
   leading_to_stays p None = refl

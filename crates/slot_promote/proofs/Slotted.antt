@@ -20,14 +20,14 @@ use Rattle.ir_edit.proofs.Tally.{tally, tally_both, tally_same}
 use Rattle.slot_promote.specs.Slots.{is_accessed_as, limited, line_slots, promotable, promoted_slots, scalar, slot_at, slot_made, slots}
 use Rattle.slot_promote.specs.Uses.{uses}
 use Rattle.slot_promote.specs.Values.{is_there, placed, rank_of, reg_of}
-use Rattle.slot_promote.specs.declared.slots.Place.{Place}
+use Rattle.slot_promote.specs.declared.slots.SlotRank.{SlotRank}
 use Rattle.slot_promote.specs.declared.slots.Slot.{Slot}
 use Rattle.slot_promote.specs.declared.uses.Use.{Use}
 use Rattle.slot_promote.proofs.Before.{apart, count_in, counted_once, one_block, only_block}
 
 -- ---- the table
 
-pub record Stands (k : ℕ) (ss : List Slot) (x : ℕ) (o : Option Place) : Type 0 where
+pub record Stands (k : ℕ) (ss : List Slot) (x : ℕ) (o : Option SlotRank) : Type 0 where
   pub index : ℕ
   pub slot : Slot
   pub found : slice_get ss index ≡ Some slot

@@ -10,7 +10,7 @@ use Rattle.ir_tree.specs.declared.operand.Operand.TheVariants.{Null}
 use Rattle.ir_meaning.specs.Promote.{Current}
 use Rattle.slot_promote.specs.Slots.{promoted_slots}
 use Rattle.slot_promote.specs.Values.{at_start, behind_lines, placed, without_slots}
-use Rattle.slot_promote.specs.declared.slots.Place.{Place}
+use Rattle.slot_promote.specs.declared.slots.SlotRank.{SlotRank}
 use Rattle.slot_promote.specs.declared.slots.Slot.{Slot}
 
 -- ---- the numbers of the new phis
@@ -37,11 +37,11 @@ pub record End : Type 0 where
   pub values : Current
 
 -- how a block ends whose first new phi has this number, if it has new phis
-abbrev pub end_with : (ℕ → Option Place) → Option ℕ → Option Block → End
+abbrev pub end_with : (ℕ → Option SlotRank) → Option ℕ → Option Block → End
 end_with at first None = record { number = 0; values = λ x. Null }
 end_with at first (Some b) = record { number = b.number; values = behind_lines at (at_start at first) b.lines }
 
-abbrev pub ends_with : (ℕ → Option Place) → (ℕ → Option ℕ) → List Block → ℕ → End
+abbrev pub ends_with : (ℕ → Option SlotRank) → (ℕ → Option ℕ) → List Block → ℕ → End
 ends_with at first bs p = end_with at (first p) (slice_get bs p)
 
 -- ---- phis
@@ -65,12 +65,12 @@ new_phis ends from (Some n) ss = phis_from ends from n ss
 -- ---- functions
 
 -- a block with new phis before its own, and without slots among its lines
-abbrev pub block_with : (ℕ → Option Place) → List Slot → (ℕ → End) → List ℕ → Option ℕ → Block → Block
+abbrev pub block_with : (ℕ → Option SlotRank) → List Slot → (ℕ → End) → List ℕ → Option ℕ → Block → Block
 block_with at ss ends from first b =
     record b { phis = new_phis ends from first ss ++ b.phis; lines = without_slots at (at_start at first) b.lines }
 
 -- these blocks, the first of which has the place p
-abbrev pub blocks_with : (ℕ → Option Place) → List Slot → (ℕ → End) → (ℕ → List ℕ) → (ℕ → Option ℕ) → ℕ → List Block → List Block
+abbrev pub blocks_with : (ℕ → Option SlotRank) → List Slot → (ℕ → End) → (ℕ → List ℕ) → (ℕ → Option ℕ) → ℕ → List Block → List Block
 blocks_with at ss ends from first p [] = []
 blocks_with at ss ends from first p (b ∷ bs) = block_with at ss ends (from p) (first p) b ∷ blocks_with at ss ends from first (suc p) bs
 

@@ -10,7 +10,7 @@ use Rattle.slot_promote.specs.Slots.{is_access}
 use Rattle.slot_promote.specs.Values.{value_at_start}
 use Rattle.slot_promote.specs.declared.phis.BlockEnd.{BlockEnd}
 use Rattle.slot_promote.specs.declared.slots.Accesses.{Accesses}
-use Rattle.slot_promote.specs.declared.slots.Place.{Place}
+use Rattle.slot_promote.specs.declared.slots.SlotRank.{SlotRank}
 use Rattle.slot_promote.specs.declared.slots.Slots.{Slots}
 use Rattle.slot_promote.specs.declared.values.Values.{Values}
 
@@ -22,7 +22,7 @@ allowed reg (Some access) = is_access reg access
 abbrev pub allows : Accesses → Reg → ℕ → Bool
 allows a reg x = allowed reg (hash.get nat_eq a.by_local x)
 
-abbrev pub place_in : Slots → ℕ → Option Place
+abbrev pub place_in : Slots → ℕ → Option SlotRank
 place_in s x = hash.get nat_eq s.places x
 
 abbrev pub written_or : Option Operand → Operand → Operand
@@ -30,17 +30,17 @@ written_or (Some o) start = o
 written_or None start = start
 
 -- the values of slots that stand at these places
-abbrev pub current : (ℕ → Option Place) → Values → Current
+abbrev pub current : (ℕ → Option SlotRank) → Values → Current
 current at v x = written_or (hash.get nat_eq v.written x) (value_at_start v.first (at x))
 
-abbrev pub end_view : (ℕ → Option Place) → BlockEnd → End
+abbrev pub end_view : (ℕ → Option SlotRank) → BlockEnd → End
 end_view at e = record { number = e.number; values = current at e.values }
 
-abbrev pub viewed : (ℕ → Option Place) → Option BlockEnd → End
+abbrev pub viewed : (ℕ → Option SlotRank) → Option BlockEnd → End
 viewed at None = record { number = 0; values = λ x. Null }
 viewed at (Some e) = end_view at e
 
-abbrev pub ends_in : (ℕ → Option Place) → List BlockEnd → ℕ → End
+abbrev pub ends_in : (ℕ → Option SlotRank) → List BlockEnd → ℕ → End
 ends_in at es p = viewed at (slice_get es p)
 
 -- the number at a place, and none behind the last

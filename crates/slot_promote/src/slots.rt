@@ -22,7 +22,7 @@ pub(crate) struct Slot {
 
 /// The rank of a slot among those that are promoted, from 0, and its type.
 #[derive(Clone, Copy)]
-pub(crate) struct Place {
+pub(crate) struct SlotRank {
     pub rank: usize,
     pub reg: Reg,
 }
@@ -179,17 +179,17 @@ fn limited(alloc: Global, blocks: usize, slots: Vec<Slot>) -> Vec<Slot>
 #[derive(Drop)]
 pub(crate) struct Slots {
     pub list: Vec<Slot>,
-    places: HashMap<u32, Place>,
+    places: HashMap<u32, SlotRank>,
 }
 
 /// The places of these slots by their locals.
-fn places(alloc: Global, list: &[Slot]) -> Result<HashMap<u32, Place>, AllocError>
+fn places(alloc: Global, list: &[Slot]) -> Result<HashMap<u32, SlotRank>, AllocError>
     ensures { IfOk result (λ t. (x : ℕ) → hash.get nat_eq t x ≡ placed 0 list.now x) }
 {
     let mut places = HashMap::new(alloc);
     for rank in (0..list.len()).rev() {
         let Slot { local, reg } = list[rank];
-        places.insert(local, Place { rank, reg })?;
+        places.insert(local, SlotRank { rank, reg })?;
     }
     Ok(places)
 }

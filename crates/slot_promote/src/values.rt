@@ -4,7 +4,7 @@ ghost use Rattle.ir_tree.specs.declared.instr.Line.{Line};
 ghost use Rattle.ir_meaning.specs.Promote.{behind, changed, chosen_value};
 ghost use Rattle.slot_promote.specs.Tables.{current, place_in};
 ghost use Rattle.slot_promote.specs.Values.{behind_line, behind_lines, goes, instr_with, is_slot, load_with, local_goes, makes, reg_of, regs, value_at_start, without_slots, writes};
-ghost use Rattle.slot_promote.specs.declared.slots.Place.{Place};
+ghost use Rattle.slot_promote.specs.declared.slots.SlotRank.{SlotRank};
 
 use crate::slots::Slots;
 use ir_tree::{Argument, Duplicate, Instr, Line, Operand, Rows};
@@ -34,7 +34,7 @@ pub(crate) struct Values {
 impl Values {
     /// The values at a block's start: of its phis, the first of which has this number, or poison where it has none.
     pub(crate) fn new(alloc: Global, first: Option<usize>) -> Self
-        ensures { (at : ℕ → Option Place) (x : ℕ) → current at result x ≡ value_at_start first (at x) }
+        ensures { (at : ℕ → Option SlotRank) (x : ℕ) → current at result x ≡ value_at_start first (at x) }
     {
         Values {
             first,
@@ -68,7 +68,7 @@ impl Values {
 
     /// Gives a slot a value.
     fn set(&mut self, local: u32, value: Operand) -> Result<(), AllocError>
-        ensures { OnOk result ((at : ℕ → Option Place) (x : ℕ) → current at self.new x ≡ changed local value (current at self.old) x) }
+        ensures { OnOk result ((at : ℕ → Option SlotRank) (x : ℕ) → current at self.new x ≡ changed local value (current at self.old) x) }
     {
         self.written.insert(local, value)?;
         Ok(())

@@ -8,12 +8,12 @@ use Rattle.std.specs.Ordering.{nat_cmp, ordering_reverse}
 use Rattle.std.specs.Str.{bytes_eq}
 use Rattle.std.specs.declared.cmp.Ordering.{Ordering}
 use Rattle.std.specs.declared.cmp.Ordering.TheVariants.{Less, Equal, Greater}
-use Rattle.symbol_resolve.specs.Listed.{Entries, Found, Listing, conflict, known, least_from, lesser, lesser_of, or_unknown, pairs, prevails, settled}
+use Rattle.symbol_resolve.specs.Listed.{Entries, Conflict, Listing, conflict, known, least_from, lesser, lesser_of, or_unknown, pairs, prevails, settled}
 use Rattle.ir_tree.specs.NameOrder.{comes_before, is_less}
 use Rattle.symbol_resolve.specs.Resolved.{module_of}
 use Rattle.symbol_resolve.specs.declared.facts.Facts.{Facts}
-use Rattle.symbol_resolve.specs.declared.least.Rule.{Rule}
-use Rattle.symbol_resolve.specs.declared.least.Rule.TheVariants as rule
+use Rattle.symbol_resolve.specs.declared.least.LinkRule.{LinkRule}
+use Rattle.symbol_resolve.specs.declared.least.LinkRule.TheVariants as rule
 
 -- ---- order
 
@@ -50,30 +50,30 @@ through a b c ab bc = by (cmp a b) (cmp b c) refl refl
 
 -- ---- the least
 
-lesser_is : (best : Option Found) (e : Found) → (r : Found) × (lesser best e ≡ Some r) × AtMost r.0 e.0 × ((b : Found) → best ≡ Some b → AtMost r.0 b.0) × ((r ≡ e) ⊎ (best ≡ Some r))
+lesser_is : (best : Option Conflict) (e : Conflict) → (r : Conflict) × (lesser best e ≡ Some r) × AtMost r.0 e.0 × ((b : Conflict) → best ≡ Some b → AtMost r.0 b.0) × ((r ≡ e) ⊎ (best ≡ Some r))
 lesser_is None e = (e, refl, itself e.0, λ b h. absurd (none h), inl refl)
   where
-    none : {b : Found} → None ≡ Some b → ⊥
+    none : {b : Conflict} → None ≡ Some b → ⊥
     none h = cc
 lesser_is (Some best) e = by (comes_before e.0 best.0) refl
   where
-    inside : {b : Found} → Some best ≡ Some b → best ≡ b
+    inside : {b : Conflict} → Some best ≡ Some b → best ≡ b
     inside h = cc
 
     by : (v : Bool) → comes_before e.0 best.0 ≡ v
-        → (r : Found) × (lesser (Some best) e ≡ Some r) × AtMost r.0 e.0 × ((b : Found) → Some best ≡ Some b → AtMost r.0 b.0) × ((r ≡ e) ⊎ (Some best ≡ Some r))
+        → (r : Conflict) × (lesser (Some best) e ≡ Some r) × AtMost r.0 e.0 × ((b : Conflict) → Some best ≡ Some b → AtMost r.0 b.0) × ((r ≡ e) ⊎ (Some best ≡ Some r))
     by true h = (
       e,
       ap (λ (c : Bool). cond c (Some e) (Some best)) h,
       itself e.0,
-      λ b same. subst (λ (x : Found). AtMost e.0 x.0) (inside same) (less_then e.0 best.0 h),
+      λ b same. subst (λ (x : Conflict). AtMost e.0 x.0) (inside same) (less_then e.0 best.0 h),
       inl refl,
     )
     by false h = (
       best,
       ap (λ (c : Bool). cond c (Some e) (Some best)) h,
       not_less_then e.0 best.0 h,
-      λ b same. subst (λ (x : Found). AtMost best.0 x.0) (inside same) (itself best.0),
+      λ b same. subst (λ (x : Conflict). AtMost best.0 x.0) (inside same) (itself best.0),
       inr refl,
     )
 
@@ -82,13 +82,13 @@ Among x [] = ⊥
 Among x (y ∷ ys) = (x ≡ y) ⊎ Among x ys
 
 -- what is found is one of the names, or was there before
-abbrev IsFrom : Rule → Option Found → Entries → Found → Type 0
+abbrev IsFrom : LinkRule → Option Conflict → Entries → Conflict → Type 0
 IsFrom rule best es r = ((f : Facts) × Among (r.0, f) (pairs es) × (conflict rule f ≡ Some r.1)) ⊎ (best ≡ Some r)
 
-abbrev IsLowest : Rule → Option Found → Entries → Found → Type 0
-IsLowest rule best es r = ((n : List ℕ) (p : ℕ × ℕ) → conflict rule (known es n) ≡ Some p → AtMost r.0 n) × ((b : Found) → best ≡ Some b → AtMost r.0 b.0)
+abbrev IsLowest : LinkRule → Option Conflict → Entries → Conflict → Type 0
+IsLowest rule best es r = ((n : List ℕ) (p : ℕ × ℕ) → conflict rule (known es n) ≡ Some p → AtMost r.0 n) × ((b : Conflict) → best ≡ Some b → AtMost r.0 b.0)
 
-none_unknown : (rule : Rule) (p : ℕ × ℕ) → conflict rule (or_unknown None) ≡ Some p → ⊥
+none_unknown : (rule : LinkRule) (p : ℕ × ℕ) → conflict rule (or_unknown None) ≡ Some p → ⊥
 none_unknown rule.OneDefinition p h = cc
 none_unknown rule.OneKind p h = cc
 
@@ -100,8 +100,8 @@ known_later : (e : Bor (List ℕ) × Facts) (es : Entries) (n : List ℕ) → by
 known_later e es n h = ap (λ (c : Bool). or_unknown (cond c (Some e.1) (lookup (λ key. bytes_eq n key.now) es))) h
 
 -- one more name, where the least of the others is known
-least_step : (rule : Rule) (best : Option Found) (e : Bor (List ℕ) × Facts) (es : Entries) (r : Found) → least_from rule best (pairs (e ∷ es)) ≡ Some r
-    → ((other : Option Found) → least_from rule other (pairs es) ≡ Some r → IsFrom rule other es r × IsLowest rule other es r)
+least_step : (rule : LinkRule) (best : Option Conflict) (e : Bor (List ℕ) × Facts) (es : Entries) (r : Conflict) → least_from rule best (pairs (e ∷ es)) ≡ Some r
+    → ((other : Option Conflict) → least_from rule other (pairs es) ≡ Some r → IsFrom rule other es r × IsLowest rule other es r)
     → IsFrom rule best (e ∷ es) r × IsLowest rule best (e ∷ es) r
 least_step rule best e es r h ih = by (conflict rule e.1) refl
   where
@@ -129,35 +129,35 @@ least_step rule best e es r h ih = by (conflict rule e.1) refl
         never : (p : ℕ × ℕ) → None ≡ Some p → ⊥
         never p h = cc
     by (Some p) c =
-        let now : (q : Found) × (lesser best (e.0.now, p) ≡ Some q) × AtMost q.0 e.0.now × ((b : Found) → best ≡ Some b → AtMost q.0 b.0) × ((q ≡ (e.0.now, p)) ⊎ (best ≡ Some q)) = lesser_is best (e.0.now, p) in
+        let now : (q : Conflict) × (lesser best (e.0.now, p) ≡ Some q) × AtMost q.0 e.0.now × ((b : Conflict) → best ≡ Some b → AtMost q.0 b.0) × ((q ≡ (e.0.now, p)) ⊎ (best ≡ Some q)) = lesser_is best (e.0.now, p) in
         let found : IsFrom rule (lesser best (e.0.now, p)) es r × IsLowest rule (lesser best (e.0.now, p)) es r = rest (Some p) c in
         let low : AtMost r.0 now.0.0 = found.1.1 now.0 now.1 in (
           came found.0 now.0 now.1 now.4,
           (others found.1.0 (λ q is. through r.0 now.0.0 e.0.now low now.2), λ b is. through r.0 now.0.0 b.0 low (now.3 b is)),
         )
       where
-        same : {x y : Found} → Some x ≡ Some y → x ≡ y
+        same : {x y : Conflict} → Some x ≡ Some y → x ≡ y
         same h = cc
 
-        came : IsFrom rule (lesser best (e.0.now, p)) es r → (q : Found) → lesser best (e.0.now, p) ≡ Some q → (q ≡ (e.0.now, p)) ⊎ (best ≡ Some q) → IsFrom rule best (e ∷ es) r
+        came : IsFrom rule (lesser best (e.0.now, p)) es r → (q : Conflict) → lesser best (e.0.now, p) ≡ Some q → (q ≡ (e.0.now, p)) ⊎ (best ≡ Some q) → IsFrom rule best (e ∷ es) r
         came (inl (f, a, d)) q is from = inl (f, inr a, d)
         came (inr d) q is (inl here) =
             let r_is : r ≡ (e.0.now, p) = same (sym d ∙ is) ∙ here in
-            inl (e.1, inl (ap (λ (x : Found). (x.0, e.1)) r_is), c ∙ ap (λ (x : Found). Some x.1) (sym r_is))
+            inl (e.1, inl (ap (λ (x : Conflict). (x.0, e.1)) r_is), c ∙ ap (λ (x : Conflict). Some x.1) (sym r_is))
         came (inr d) q is (inr before) = inr (before ∙ sym is ∙ d)
 
-pub is_least : (rule : Rule) (best : Option Found) (es : Entries) (r : Found) → least_from rule best (pairs es) ≡ Some r → IsFrom rule best es r × IsLowest rule best es r
-is_least rule best [] r h = (inr h, (λ n p c. absurd (none_unknown rule p c), λ b is. subst (λ (x : Found). AtMost r.0 x.0) (inside (sym h ∙ is)) (itself r.0)))
+pub is_least : (rule : LinkRule) (best : Option Conflict) (es : Entries) (r : Conflict) → least_from rule best (pairs es) ≡ Some r → IsFrom rule best es r × IsLowest rule best es r
+is_least rule best [] r h = (inr h, (λ n p c. absurd (none_unknown rule p c), λ b is. subst (λ (x : Conflict). AtMost r.0 x.0) (inside (sym h ∙ is)) (itself r.0)))
   where
-    inside : {b : Found} → Some r ≡ Some b → r ≡ b
+    inside : {b : Conflict} → Some r ≡ Some b → r ≡ b
     inside e = cc
 is_least rule best (e ∷ es) r h = least_step rule best e es r h (λ other g. is_least rule other es r g)
 
-no_found : (r : Found) → None ≡ Some r → ⊥
+no_found : (r : Conflict) → None ≡ Some r → ⊥
 no_found r h = cc
 
-none_step : (rule : Rule) (best : Option Found) (e : Bor (List ℕ) × Facts) (es : Entries) → least_from rule best (pairs (e ∷ es)) ≡ None
-    → ((other : Option Found) → least_from rule other (pairs es) ≡ None → (other ≡ None) × ((n : List ℕ) (p : ℕ × ℕ) → conflict rule (known es n) ≡ Some p → ⊥))
+none_step : (rule : LinkRule) (best : Option Conflict) (e : Bor (List ℕ) × Facts) (es : Entries) → least_from rule best (pairs (e ∷ es)) ≡ None
+    → ((other : Option Conflict) → least_from rule other (pairs es) ≡ None → (other ≡ None) × ((n : List ℕ) (p : ℕ × ℕ) → conflict rule (known es n) ≡ Some p → ⊥))
     → (best ≡ None) × ((n : List ℕ) (p : ℕ × ℕ) → conflict rule (known (e ∷ es) n) ≡ Some p → ⊥)
 none_step rule best e es h ih = by (conflict rule e.1) refl
   where
@@ -182,7 +182,7 @@ none_step rule best e es h ih = by (conflict rule e.1) refl
         absurd (no_found now.0 (sym gone ∙ now.1))
 
 -- where none is found, no name breaks the rule
-pub is_none : (rule : Rule) (best : Option Found) (es : Entries) → least_from rule best (pairs es) ≡ None → (best ≡ None) × ((n : List ℕ) (p : ℕ × ℕ) → conflict rule (known es n) ≡ Some p → ⊥)
+pub is_none : (rule : LinkRule) (best : Option Conflict) (es : Entries) → least_from rule best (pairs es) ≡ None → (best ≡ None) × ((n : List ℕ) (p : ℕ × ℕ) → conflict rule (known es n) ≡ Some p → ⊥)
 is_none rule best [] h = (h, λ n p c. none_unknown rule p c)
 is_none rule best (e ∷ es) h = none_step rule best e es h (λ other g. is_none rule other es g)
 
@@ -197,7 +197,7 @@ no_entry h = cc
 pub nothing_there : (o : Option (Bor (List ℕ) × Facts)) (e : Bor (List ℕ) × Facts) → None ≡ o → o ≡ Some e → ⊥
 nothing_there o e h g = no_entry (h ∙ g)
 
-pub one_found : (rule : Rule) (b r : Option Found) (x e : Bor (List ℕ) × Facts) (p : Option (ℕ × ℕ)) (o : Option (Bor (List ℕ) × Facts))
+pub one_found : (rule : LinkRule) (b r : Option Conflict) (x e : Bor (List ℕ) × Facts) (p : Option (ℕ × ℕ)) (o : Option (Bor (List ℕ) × Facts))
     → r ≡ lesser_of b x.0.now p → p ≡ conflict rule x.1 → Some x ≡ o → o ≡ Some e → r ≡ lesser_of b e.0.now (conflict rule e.1)
 one_found rule b r x e p o r_is p_is here there =
     r_is ∙ ap (lesser_of b x.0.now) p_is ∙ ap (λ (y : Bor (List ℕ) × Facts). lesser_of b y.0.now (conflict rule y.1)) (some_same (here ∙ there))
@@ -207,13 +207,13 @@ entry_at [] i lt = absurd (omega arith)
 entry_at (e ∷ es) zero lt = (e, refl, refl)
 entry_at (e ∷ es) (suc i) lt = entry_at es i (omega arith)
 
-pub least_more : (rule : Rule) (es : Entries) (i : ℕ) (b r all : Option Found) → i < length es → least_from rule b (pairs (drop i es)) ≡ all
+pub least_more : (rule : LinkRule) (es : Entries) (i : ℕ) (b r all : Option Conflict) → i < length es → least_from rule b (pairs (drop i es)) ≡ all
     → ((e : Bor (List ℕ) × Facts) → slice_get es i ≡ Some e → r ≡ lesser_of b e.0.now (conflict rule e.1))
     → least_from rule r (pairs (drop (i + 1) es)) ≡ all
 least_more rule es i b r all lt so_far next =
     let at = entry_at es i lt in
     ap (λ (n : ℕ). least_from rule r (pairs (drop n es))) (add-one i)
-    ∙ ap (λ (z : Option Found). least_from rule z (pairs (drop (suc i) es))) (next at.0 at.1)
+    ∙ ap (λ (z : Option Conflict). least_from rule z (pairs (drop (suc i) es))) (next at.0 at.1)
     ∙ sym (ap (λ (z : Entries). least_from rule b (pairs z)) at.2) ∙ so_far
 
 -- ---- looking a name up

@@ -15,8 +15,8 @@ use Rattle.symbol_resolve.specs.Mentions.{Mention, as_function, as_variable, is_
 use Rattle.symbol_resolve.specs.Prevailing.{first, prevailing, second}
 use Rattle.ir_tree.specs.Once.{once}
 use Rattle.symbol_resolve.specs.declared.facts.Facts.{Facts}
-use Rattle.symbol_resolve.specs.declared.mention.Kind.{Kind}
-use Rattle.symbol_resolve.specs.declared.mention.Kind.TheVariants as kinds
+use Rattle.symbol_resolve.specs.declared.mention.SymbolKind.{SymbolKind}
+use Rattle.symbol_resolve.specs.declared.mention.SymbolKind.TheVariants as kinds
 use Rattle.symbol_resolve.specs.declared.mention.Standing.{Standing}
 use Rattle.symbol_resolve.specs.declared.mention.Standing.TheVariants as standings
 use Rattle.symbol_resolve.proofs.Names.{and_name, filter_both, is_in, once_more}
@@ -85,7 +85,7 @@ names_then (e ∷ es) k v = by (same_key k e.0) refl (names_then es k v)
 
 -- ---- facts
 
-module _ (ms : List Mention) (number : ℕ) (name : List ℕ) (kind : Kind) (standing : Standing) where
+module _ (ms : List Mention) (number : ℕ) (name : List ℕ) (kind : SymbolKind) (standing : Standing) where
   abbrev pub one : Mention
   one = record { number = number; name = name; kind = kind; standing = standing }
 
@@ -123,7 +123,7 @@ module _ (ms : List Mention) (number : ℕ) (name : List ℕ) (kind : Kind) (sta
   seconds test n = ap second (with_one test n (bytes_eq n name && test one) refl) ∙ second_with (modules_with test ms n) (bytes_eq n name && test one)
 
   -- the facts, part by part
-  abbrev parts : Facts → Bool → Kind → Standing → Facts
+  abbrev parts : Facts → Bool → SymbolKind → Standing → Facts
   parts f b kind standing = record {
     function = cond (b && as_function kind) (or_this f.function number) f.function;
     variable = cond (b && as_variable kind) (or_this f.variable number) f.variable;
@@ -132,7 +132,7 @@ module _ (ms : List Mention) (number : ℕ) (name : List ℕ) (kind : Kind) (sta
     weak = cond (b && weakly standing) (or_this f.weak number) f.weak;
   }
 
-  parts_are : (f : Facts) (b : Bool) (kind : Kind) (standing : Standing) → parts f b kind standing ≡ cond b (noted f number kind standing) f
+  parts_are : (f : Facts) (b : Bool) (kind : SymbolKind) (standing : Standing) → parts f b kind standing ≡ cond b (noted f number kind standing) f
   parts_are f true kinds.Function standings.Strong = refl
   parts_are f true kinds.Function standings.Weak = refl
   parts_are f true kinds.Function standings.Declared = refl

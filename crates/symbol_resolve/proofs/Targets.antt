@@ -4,7 +4,7 @@ use Rattle.std.specs.List.{position_from}
 use Rattle.std.specs.Str.{bytes_eq}
 use Rattle.ir_tree.specs.declared.module.Module.{Module}
 use Rattle.symbol_resolve.specs.Clashes.{Agree, Differ, differs, first_given, first_other, given_text, is_given, target_text}
-use Rattle.symbol_resolve.specs.declared.clash.TargetLine.{TargetLine}
+use Rattle.ir_tree.specs.declared.target_line.TargetLine.{TargetLine}
 
 abbrev given : TargetLine → Module → Bool
 given line m = is_given (target_text line m)

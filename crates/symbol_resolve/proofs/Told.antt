@@ -3,7 +3,7 @@ use Rattle.std.proofs.Common.{false, true, ◌≡◌, ◌∙◌, ◌⊎◌, inl,
 use Rattle.std.specs.Result.{IsErrAnd}
 use Rattle.ir_tree.specs.declared.module.Module.{Module}
 use Rattle.symbol_resolve.specs.Clashes.{Clashes, IsOfTwoKinds, NoDuplicate, OneTarget}
-use Rattle.symbol_resolve.specs.Listed.{ChecksNames, ChecksTargets, Entries, Found, Tabled, both, conflict, facts_of, least_from, pairs, settled, told}
+use Rattle.symbol_resolve.specs.Listed.{ChecksNames, ChecksTargets, Entries, Conflict, Tabled, both, conflict, facts_of, least_from, pairs, settled, told}
 use Rattle.symbol_resolve.specs.Mentions.{Mention, is_function, is_strong, is_variable, mentions, modules_with, names_of}
 use Rattle.symbol_resolve.specs.Prevailing.{first, second}
 use Rattle.symbol_resolve.specs.Resolved.{Resolves, Symbols}
@@ -12,8 +12,8 @@ use Rattle.symbol_resolve.specs.declared.clash.Clash.{Clash}
 use Rattle.ir_tree.specs.declared.failure.Failure.{Failure}
 use Rattle.ir_tree.specs.declared.failure.Failure.TheVariants as error
 use Rattle.symbol_resolve.specs.declared.facts.Facts.{Facts}
-use Rattle.symbol_resolve.specs.declared.least.Rule.{Rule}
-use Rattle.symbol_resolve.specs.declared.least.Rule.TheVariants as rule
+use Rattle.symbol_resolve.specs.declared.least.LinkRule.{LinkRule}
+use Rattle.symbol_resolve.specs.declared.least.LinkRule.TheVariants as rule
 use Rattle.symbol_resolve.proofs.Found.{Among, AtMost, is_least, is_none}
 use Rattle.symbol_resolve.proofs.Tabling.{pairs_tabled, settled_tabled}
 
@@ -54,17 +54,17 @@ among_facts f [] n v h = absurd h
 among_facts f (m ∷ ms) n v (inl e) = ap (λ (x : List ℕ × Facts). x.1) e ∙ ap f (sym (ap (λ (x : List ℕ × Facts). x.0) e))
 among_facts f (m ∷ ms) n v (inr h) = among_facts f ms n v h
 
-abbrev IsFoundOf : Rule → List Mention → Found → Type 0
+abbrev IsFoundOf : LinkRule → List Mention → Conflict → Type 0
 IsFoundOf rule ms r = (conflict rule (facts_of ms r.0) ≡ Some r.1) × ((n : List ℕ) (p : ℕ × ℕ) → conflict rule (facts_of ms n) ≡ Some p → AtMost r.0 n)
 
-found_of : (rule : Rule) (ms : List Mention) (es : Entries) (r : Found) → Tabled ms es → least_from rule None (pairs es) ≡ Some r → IsFoundOf rule ms r
+found_of : (rule : LinkRule) (ms : List Mention) (es : Entries) (r : Conflict) → Tabled ms es → least_from rule None (pairs es) ≡ Some r → IsFoundOf rule ms r
 found_of rule ms es r t h = (here (is_least rule None es r h).0, λ n p c. (is_least rule None es r h).1.0 n p (ap (conflict rule) (t.facts n) ∙ c))
   where
     here : ((f : Facts) × Among (r.0, f) (pairs es) × (conflict rule f ≡ Some r.1)) ⊎ (None ≡ Some r) → conflict rule (facts_of ms r.0) ≡ Some r.1
     here (inl (f, a, c)) = ap (conflict rule) (sym (among_facts (facts_of ms) (once (names_of ms)) r.0 f (subst (Among (r.0, f)) (pairs_tabled ms es t) a))) ∙ c
     here (inr h) = absurd (none_some h)
 
-none_of : (rule : Rule) (ms : List Mention) (es : Entries) → Tabled ms es → least_from rule None (pairs es) ≡ None → (n : List ℕ) (p : ℕ × ℕ) → conflict rule (facts_of ms n) ≡ Some p → ⊥
+none_of : (rule : LinkRule) (ms : List Mention) (es : Entries) → Tabled ms es → least_from rule None (pairs es) ≡ None → (n : List ℕ) (p : ℕ × ℕ) → conflict rule (facts_of ms n) ≡ Some p → ⊥
 none_of rule ms es t h n p c = (is_none rule None es h).1 n p (ap (conflict rule) (t.facts n) ∙ c)
 
 -- ---- the modules of a link
@@ -78,7 +78,7 @@ module _ (ms : List Module) (es : Entries) (t : Tabled (mentions ms) es) where
       let pair = both_there (first (modules_with is_function (mentions ms) name)) (first (modules_with is_variable (mentions ms) name)) d.0 d.1 in
       none_of rule.OneKind (mentions ms) es t h name pair.0 pair.1
 
-  duplicate : OneTarget ms → (r : Found) → IsFoundOf rule.OneDefinition (mentions ms) r → Clashes ms (told rule.OneDefinition r)
+  duplicate : OneTarget ms → (r : Conflict) → IsFoundOf rule.OneDefinition (mentions ms) r → Clashes ms (told rule.OneDefinition r)
   duplicate target r f =
       let parts = both_are (first (modules_with is_strong (mentions ms) r.0)) (second (modules_with is_strong (mentions ms) r.0)) r.1 f.0 in (
         target,
@@ -90,7 +90,7 @@ module _ (ms : List Module) (es : Entries) (t : Tabled (mentions ms) es) where
         parts.1,
       )
 
-  two_kinds : OneTarget ms → NoDuplicate ms → (r : Found) → IsFoundOf rule.OneKind (mentions ms) r → Clashes ms (told rule.OneKind r)
+  two_kinds : OneTarget ms → NoDuplicate ms → (r : Conflict) → IsFoundOf rule.OneKind (mentions ms) r → Clashes ms (told rule.OneKind r)
   two_kinds target once r f =
       let parts = both_are (first (modules_with is_function (mentions ms) r.0)) (first (modules_with is_variable (mentions ms) r.0)) r.1 f.0 in (
         target,
@@ -105,7 +105,7 @@ module _ (ms : List Module) (es : Entries) (t : Tabled (mentions ms) es) where
         parts.1,
       )
 
-  same_told : (c : Clash) (told_as : Found → Clash) (o : Option Found) → option_map told_as o ≡ Some c → ((r : Found) → o ≡ Some r → Clashes ms (told_as r)) → Clashes ms c
+  same_told : (c : Clash) (told_as : Conflict → Clash) (o : Option Conflict) → option_map told_as o ≡ Some c → ((r : Conflict) → o ≡ Some r → Clashes ms (told_as r)) → Clashes ms c
   same_told c told_as None h clashes = absurd (none_some h)
   same_told c told_as (Some r) h clashes = subst (Clashes ms) (inside h) (clashes r refl)
     where

@@ -10,8 +10,8 @@ use Rattle.symbol_resolve.specs.Mentions.{Mention, mentions, modules_with, is_fu
 use Rattle.symbol_resolve.specs.Prevailing.{first, second}
 use Rattle.symbol_resolve.specs.declared.clash.Clash.{Clash}
 use Rattle.symbol_resolve.specs.declared.clash.Clash.TheVariants as clash
-use Rattle.symbol_resolve.specs.declared.clash.TargetLine.{TargetLine}
-use Rattle.symbol_resolve.specs.declared.clash.TargetLine.TheVariants.{Datalayout, Triple}
+use Rattle.ir_tree.specs.declared.target_line.TargetLine.{TargetLine}
+use Rattle.ir_tree.specs.declared.target_line.TargetLine.TheVariants.{Datalayout, Triple}
 
 -- ---- target lines
 

@@ -19,10 +19,10 @@ use Rattle.symbol_resolve.specs.Mentions.{Mention, modules_with, is_function, is
 use Rattle.symbol_resolve.specs.Prevailing.{first, second, or_else}
 use Rattle.ir_tree.specs.Once.{once}
 use Rattle.symbol_resolve.specs.declared.facts.Facts.{Facts}
-use Rattle.symbol_resolve.specs.declared.least.Rule.{Rule}
-use Rattle.symbol_resolve.specs.declared.least.Rule.TheVariants as rule
-use Rattle.symbol_resolve.specs.declared.mention.Kind.{Kind}
-use Rattle.symbol_resolve.specs.declared.mention.Kind.TheVariants as kind
+use Rattle.symbol_resolve.specs.declared.least.LinkRule.{LinkRule}
+use Rattle.symbol_resolve.specs.declared.least.LinkRule.TheVariants as rule
+use Rattle.symbol_resolve.specs.declared.mention.SymbolKind.{SymbolKind}
+use Rattle.symbol_resolve.specs.declared.mention.SymbolKind.TheVariants as kind
 use Rattle.symbol_resolve.specs.declared.mention.Standing.{Standing}
 use Rattle.symbol_resolve.specs.declared.mention.Standing.TheVariants as standing
 
@@ -37,7 +37,7 @@ abbrev pub second_or : Option ℕ → Option ℕ → ℕ → Option ℕ
 second_or None there k = there
 second_or (Some other) there k = or_this there k
 
-abbrev pub with_kind : Facts → ℕ → Kind → Facts
+abbrev pub with_kind : Facts → ℕ → SymbolKind → Facts
 with_kind f k kind.Function = record f { function = or_this f.function k }
 with_kind f k kind.Variable = record f { variable = or_this f.variable k }
 
@@ -46,7 +46,7 @@ with_standing f k standing.Strong = record f { strong = or_this f.strong k; seco
 with_standing f k standing.Weak = record f { weak = or_this f.weak k }
 with_standing f k standing.Declared = f
 
-abbrev pub noted : Facts → ℕ → Kind → Standing → Facts
+abbrev pub noted : Facts → ℕ → SymbolKind → Standing → Facts
 noted f k kind standing = with_standing (with_kind f k kind) k standing
 
 abbrev pub prevails : Facts → Option ℕ
@@ -108,33 +108,33 @@ both (Some a) (Some b) = Some (a, b)
 both (Some a) None = None
 both None b = None
 
-abbrev pub conflict : Rule → Facts → Option (ℕ × ℕ)
+abbrev pub conflict : LinkRule → Facts → Option (ℕ × ℕ)
 conflict rule.OneDefinition f = both f.strong f.second
 conflict rule.OneKind f = both f.function f.variable
 
 -- a name and two modules
-abbrev pub Found : Type 0
-Found = List ℕ × (ℕ × ℕ)
+abbrev pub Conflict : Type 0
+Conflict = List ℕ × (ℕ × ℕ)
 
-abbrev pub lesser : Option Found → Found → Option Found
+abbrev pub lesser : Option Conflict → Conflict → Option Conflict
 lesser None e = Some e
 lesser (Some best) e = if comes_before e.0 best.0 then Some e else Some best
 
-abbrev pub lesser_of : Option Found → List ℕ → Option (ℕ × ℕ) → Option Found
+abbrev pub lesser_of : Option Conflict → List ℕ → Option (ℕ × ℕ) → Option Conflict
 lesser_of best name None = best
 lesser_of best name (Some p) = lesser best (name, p)
 
 -- of the names that break a rule the least, unless a lesser one was there
-abbrev pub least_from : Rule → Option Found → Listing → Option Found
+abbrev pub least_from : LinkRule → Option Conflict → Listing → Option Conflict
 least_from rule best [] = best
 least_from rule best (e ∷ es) = least_from rule (lesser_of best e.0 (conflict rule e.1)) es
 
 -- what is told of it
-abbrev pub told : Rule → Found → Clash
+abbrev pub told : LinkRule → Conflict → Clash
 told rule.OneDefinition e = clash.DuplicateSymbol e.0 e.1.0 e.1.1
 told rule.OneKind e = clash.KindClash e.0 e.1.0 e.1.1
 
-abbrev pub ChecksNames : Rule → Entries → Result (Unit {0}) (Failure Clash) → Type 0
+abbrev pub ChecksNames : LinkRule → Entries → Result (Unit {0}) (Failure Clash) → Type 0
 ChecksNames rule es (Ok done) = least_from rule None (pairs es) ≡ None
 ChecksNames rule es (Err (error.Fault c)) = option_map (told rule) (least_from rule None (pairs es)) ≡ Some c
 ChecksNames rule es (Err error.NoMemory) = Unit {0}

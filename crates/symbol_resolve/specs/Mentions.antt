@@ -9,8 +9,8 @@ use Rattle.ir_tree.specs.declared.function.Linkage.TheVariants as linkage
 use Rattle.ir_tree.specs.declared.module.GlobalValue.{GlobalValue}
 use Rattle.ir_tree.specs.declared.module.GlobalValue.TheVariants as global
 use Rattle.ir_tree.specs.declared.module.Module.{Module}
-use Rattle.symbol_resolve.specs.declared.mention.Kind.{Kind}
-use Rattle.symbol_resolve.specs.declared.mention.Kind.TheVariants as kind
+use Rattle.symbol_resolve.specs.declared.mention.SymbolKind.{SymbolKind}
+use Rattle.symbol_resolve.specs.declared.mention.SymbolKind.TheVariants as kind
 use Rattle.symbol_resolve.specs.declared.mention.Standing.{Standing}
 use Rattle.symbol_resolve.specs.declared.mention.Standing.TheVariants as standing
 
@@ -18,7 +18,7 @@ use Rattle.symbol_resolve.specs.declared.mention.Standing.TheVariants as standin
 pub record Mention : Type 0 where
   pub number : ℕ
   pub name : List ℕ
-  pub kind : Kind
+  pub kind : SymbolKind
   pub standing : Standing
 
 -- what a definition counts as; one that is local to its module is no mention
@@ -40,7 +40,7 @@ abbrev pub function_standing : List Block → Linkage → Option Standing
 function_standing [] l = Some standing.Declared
 function_standing (b ∷ bs) l = standing_of l
 
-abbrev pub mentioned : ℕ → List ℕ → Kind → Option Standing → List Mention
+abbrev pub mentioned : ℕ → List ℕ → SymbolKind → Option Standing → List Mention
 mentioned k name kind None = []
 mentioned k name kind (Some standing) = record { number = k; name = name; kind = kind; standing = standing } ∷ []
 
@@ -58,11 +58,11 @@ mentions ms = mentions_from 0 ms
 
 -- ---- mentions of a sort
 
-abbrev pub as_function : Kind → Bool
+abbrev pub as_function : SymbolKind → Bool
 as_function kind.Function = true
 as_function kind.Variable = false
 
-abbrev pub as_variable : Kind → Bool
+abbrev pub as_variable : SymbolKind → Bool
 as_variable kind.Function = false
 as_variable kind.Variable = true
 

@@ -1,12 +1,5 @@
 //! Why modules can't be linked.
-use ir_tree::{Failure, Text};
-
-/// A line that says what a module is made for (LangRef, "Data Layout" and "Target Triple").
-#[derive(Clone, Copy, Debug, PartialEq, Eq)]
-pub enum TargetLine {
-    Datalayout,
-    Triple,
-}
+use ir_tree::{Failure, TargetLine, Text};
 
 /// Two modules that can't be linked, by their numbers in command order, from 0.
 #[derive(Drop)]
@@ -32,4 +25,4 @@ pub enum Clash {
 }
 
 /// Why symbols aren't resolved.
-pub type ResolveError = Failure<Clash>;
+pub type ClashError = Failure<Clash>;

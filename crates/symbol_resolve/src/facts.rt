@@ -2,7 +2,7 @@
 ghost use Rattle.std.specs.Prelude.{◌≡◌};
 ghost use Rattle.symbol_resolve.specs.Listed.{noted, or_this, prevails, second_or, with_kind, with_standing};
 
-use crate::mention::{Kind, Standing};
+use crate::mention::{Standing, SymbolKind};
 
 /// Of a name: the first module in which it is a function, a variable, an external definition; the
 /// second with an external definition; the first with a weak or linkonce definition.
@@ -44,15 +44,15 @@ fn second_or(first: Option<u32>, there: Option<u32>, number: u32) -> Option<u32>
     }
 }
 
-fn with_kind(known: Facts, number: u32, kind: Kind) -> Facts
+fn with_kind(known: Facts, number: u32, kind: SymbolKind) -> Facts
     ensures { result ≡ with_kind known number kind }
 {
     match kind {
-        Kind::Function => Facts {
+        SymbolKind::Function => Facts {
             function: or_this(known.function, number),
             ..known
         },
-        Kind::Variable => Facts {
+        SymbolKind::Variable => Facts {
             variable: or_this(known.variable, number),
             ..known
         },
@@ -77,7 +77,7 @@ fn with_standing(known: Facts, number: u32, standing: Standing) -> Facts
 }
 
 /// What is known once a further module mentions the name.
-pub(crate) fn noted(known: Facts, number: u32, kind: Kind, standing: Standing) -> Facts
+pub(crate) fn noted(known: Facts, number: u32, kind: SymbolKind, standing: Standing) -> Facts
     ensures { result ≡ noted known number kind standing }
 {
     with_standing(with_kind(known, number, kind), number, standing)

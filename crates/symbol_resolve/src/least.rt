@@ -11,7 +11,7 @@ use std::cmp::Ordering;
 
 /// What holds of each name in modules that are linked.
 #[derive(Clone, Copy, Debug, PartialEq, Eq)]
-pub enum Rule {
+pub enum LinkRule {
     /// At most one module defines it externally.
     OneDefinition,
     /// It is a function in all modules, or a variable in all.
@@ -36,12 +36,12 @@ fn both(first: Option<u32>, second: Option<u32>) -> Option<(u32, u32)>
 }
 
 /// The two modules that break the rule with a name.
-fn conflict(rule: Rule, facts: &Facts) -> Option<(u32, u32)>
+fn conflict(rule: LinkRule, facts: &Facts) -> Option<(u32, u32)>
     ensures { result ≡ conflict rule facts.now }
 {
     match rule {
-        Rule::OneDefinition => both(facts.strong, facts.second),
-        Rule::OneKind => both(facts.function, facts.variable),
+        LinkRule::OneDefinition => both(facts.strong, facts.second),
+        LinkRule::OneKind => both(facts.function, facts.variable),
     }
 }
 
@@ -96,7 +96,7 @@ fn one_more<'a>(
     best: Option<Found<'a>>,
     table: &IndexMap<&'a [u8], Facts>,
     index: usize,
-    rule: Rule,
+    rule: LinkRule,
 ) -> Option<Found<'a>>
     ensures { (e : Bor (List ℕ) × Facts) → slice_get table.entry.now.entries index ≡ Some e → option_map (λ k. (k.name.now, (k.first, k.second))) result ≡ lesser_of (option_map (λ k. (k.name.now, (k.first, k.second))) best.entry) e.0.now (conflict rule e.1) }
 {
@@ -110,7 +110,7 @@ fn one_more<'a>(
 }
 
 /// Of the names that break the rule the one with the least bytes.
-pub(crate) fn least<'a>(table: &IndexMap<&'a [u8], Facts>, rule: Rule) -> Option<Found<'a>>
+pub(crate) fn least<'a>(table: &IndexMap<&'a [u8], Facts>, rule: LinkRule) -> Option<Found<'a>>
     ensures { option_map (λ k. (k.name.now, (k.first, k.second))) result ≡ least_from rule None (pairs table.entry.now.entries) }
 {
     let mut best = None;

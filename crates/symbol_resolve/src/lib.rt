@@ -22,6 +22,6 @@ mod resolution;
 mod table;
 mod target;
 
-pub use clash::{Clash, ResolveError, TargetLine};
+pub use clash::{Clash, ClashError};
 pub use linked::resolve;
 pub use resolution::Resolution;

@@ -2,29 +2,29 @@
 ghost use Rattle.symbol_resolve.specs.Listed.{ChecksNames, ChecksTargets};
 ghost use Rattle.symbol_resolve.specs.Resolved.{Resolves};
 
-use crate::clash::{Clash, ResolveError, TargetLine};
+use crate::clash::{Clash, ClashError};
 use crate::facts::Facts;
-use crate::least::{Rule, least};
+use crate::least::{LinkRule, least};
 use crate::resolution::Resolution;
 use crate::table::tabled;
 use crate::target::differing;
 use indexmap::IndexMap;
-use ir_tree::{Text, Verified};
+use ir_tree::{TargetLine, Text, Verified};
 use std::alloc::{AllocError, Global};
 
 /// The modules' data layouts agree, and then their triples.
-fn check_targets(modules: &[Verified]) -> Result<(), ResolveError>
+fn check_targets(modules: &[Verified]) -> Result<(), ClashError>
     ensures { ChecksTargets modules.now result }
 {
     if let Some((first, second)) = differing(TargetLine::Datalayout, modules)? {
-        return Err(ResolveError::Fault(Clash::TargetClash {
+        return Err(ClashError::Fault(Clash::TargetClash {
             line: TargetLine::Datalayout,
             first,
             second,
         }));
     }
     if let Some((first, second)) = differing(TargetLine::Triple, modules)? {
-        return Err(ResolveError::Fault(Clash::TargetClash {
+        return Err(ClashError::Fault(Clash::TargetClash {
             line: TargetLine::Triple,
             first,
             second,
@@ -37,8 +37,8 @@ fn check_targets(modules: &[Verified]) -> Result<(), ResolveError>
 fn check_names(
     alloc: Global,
     table: &IndexMap<&[u8], Facts>,
-    rule: Rule,
-) -> Result<(), ResolveError>
+    rule: LinkRule,
+) -> Result<(), ClashError>
     ensures { ChecksNames rule table.now.entries result }
 {
     let Some(found) = least(table, rule) else {
@@ -46,18 +46,18 @@ fn check_names(
     };
     let name = Text::copied(alloc, found.name)?;
     let clash = match rule {
-        Rule::OneDefinition => Clash::DuplicateSymbol {
+        LinkRule::OneDefinition => Clash::DuplicateSymbol {
             name,
             first: found.first,
             second: found.second,
         },
-        Rule::OneKind => Clash::KindClash {
+        LinkRule::OneKind => Clash::KindClash {
             name,
             function: found.first,
             variable: found.second,
         },
     };
-    Err(ResolveError::Fault(clash))
+    Err(ClashError::Fault(clash))
 }
 
 /// The names of the modules of a link, which are numbered from 0 in command order, each with the
@@ -67,12 +67,12 @@ fn check_names(
 /// modules define externally, a name that is a function in one module and a variable in another;
 /// of several names the one with the least bytes. Beside want of memory, `2^32` modules or more are
 /// refused as too many. Time and memory are linear in the modules.
-pub fn resolve<'a>(alloc: Global, modules: &'a [Verified]) -> Result<Resolution<'a>, ResolveError>
+pub fn resolve<'a>(alloc: Global, modules: &'a [Verified]) -> Result<Resolution<'a>, ClashError>
     ensures { Resolves modules.entry.now result }
 {
     check_targets(modules)?;
     let table = tabled(alloc, modules)?;
-    check_names(alloc, &table, Rule::OneDefinition)?;
-    check_names(alloc, &table, Rule::OneKind)?;
+    check_names(alloc, &table, LinkRule::OneDefinition)?;
+    check_names(alloc, &table, LinkRule::OneKind)?;
     Ok(Resolution::of(table))
 }

@@ -6,7 +6,7 @@ use ir_tree::{Function, Linkage, Variable};
 
 /// A function or a variable.
 #[derive(Clone, Copy, Debug, PartialEq, Eq)]
-pub enum Kind {
+pub enum SymbolKind {
     Function,
     Variable,
 }

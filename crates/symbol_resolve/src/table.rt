@@ -5,7 +5,7 @@ ghost use Rattle.symbol_resolve.specs.Listed.{Tabled, known};
 ghost use Rattle.symbol_resolve.specs.Mentions.{Mention, mention, mentioned, mentions};
 
 use crate::facts::{Facts, UNKNOWN, noted};
-use crate::mention::{Kind, Standing, function_standing, variable_standing};
+use crate::mention::{Standing, SymbolKind, function_standing, variable_standing};
 use indexmap::IndexMap;
 use ir_tree::{GlobalValue, Verified};
 use std::alloc::{AllocError, Global};
@@ -24,7 +24,7 @@ fn note<'a>(
     table: &mut IndexMap<&'a [u8], Facts>,
     number: u32,
     name: &'a [u8],
-    kind: Kind,
+    kind: SymbolKind,
     standing: Standing,
 ) -> Result<(), AllocError>
     ensures { OnOk result ((ms : List Mention) → Tabled ms table.old.entries → Tabled (ms ++ mentioned number name.entry.now kind (Some standing)) table.new.entries) }
@@ -39,7 +39,7 @@ fn note_any<'a>(
     table: &mut IndexMap<&'a [u8], Facts>,
     number: u32,
     name: &'a [u8],
-    kind: Kind,
+    kind: SymbolKind,
     standing: Option<Standing>,
 ) -> Result<(), AllocError>
     ensures { OnOk result ((ms : List Mention) → Tabled ms table.old.entries → Tabled (ms ++ mentioned number name.entry.now kind standing) table.new.entries) }
@@ -61,12 +61,12 @@ fn note_global<'a>(
         GlobalValue::Variable(variable) => {
             let standing = variable_standing(variable);
             let name = variable.symbol.name.as_slice();
-            note_any(table, number, name, Kind::Variable, standing)
+            note_any(table, number, name, SymbolKind::Variable, standing)
         }
         GlobalValue::Function(function) => {
             let standing = function_standing(function);
             let name = function.symbol.name.as_slice();
-            note_any(table, number, name, Kind::Function, standing)
+            note_any(table, number, name, SymbolKind::Function, standing)
         }
     }
 }

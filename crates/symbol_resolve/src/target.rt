@@ -2,8 +2,7 @@
 ghost use Rattle.std.specs.Prelude.{◌≡◌, ◌<◌, length, IfOk, IfSome};
 ghost use Rattle.symbol_resolve.specs.Clashes.{Differing, differs, first_given, first_other, is_given, target_text};
 
-use crate::clash::TargetLine;
-use ir_tree::{Text, Verified};
+use ir_tree::{TargetLine, Text, Verified};
 use std::alloc::AllocError;
 
 fn target_text(line: TargetLine, verified: &Verified) -> &Text

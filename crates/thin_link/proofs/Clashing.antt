@@ -12,8 +12,8 @@ use Rattle.symbol_resolve.specs.Mentions.{is_function, is_strong, is_variable, m
 use Rattle.symbol_resolve.specs.Prevailing.{first, second}
 use Rattle.symbol_resolve.specs.declared.clash.Clash.{Clash}
 use Rattle.symbol_resolve.specs.declared.clash.Clash.TheVariants as clash
-use Rattle.symbol_resolve.specs.declared.clash.TargetLine.{TargetLine}
-use Rattle.symbol_resolve.specs.declared.clash.TargetLine.TheVariants.{Datalayout, Triple}
+use Rattle.ir_tree.specs.declared.target_line.TargetLine.{TargetLine}
+use Rattle.ir_tree.specs.declared.target_line.TargetLine.TheVariants.{Datalayout, Triple}
 
 -- ---- the least name is one
 

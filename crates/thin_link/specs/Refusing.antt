@@ -4,16 +4,13 @@ use Rattle.ir_tree.specs.declared.module.Module.{Module}
 use Rattle.symbol_resolve.specs.Clashes.{Clashes, NoClash}
 use Rattle.symbol_resolve.specs.declared.clash.Clash.{Clash}
 use Rattle.symbol_resolve.specs.declared.clash.Clash.TheVariants as clash
-use Rattle.symbol_resolve.specs.declared.clash.TargetLine.{TargetLine}
-use Rattle.symbol_resolve.specs.declared.clash.TargetLine.TheVariants as line
+use Rattle.ir_tree.specs.declared.target_line.TargetLine.{TargetLine}
 use Rattle.combined_index.specs.Combined.{Combined}
 use Rattle.liveness.specs.Liveness.{Refuses}
 use Rattle.liveness.specs.declared.refused.Refused.{Refused}
 use Rattle.liveness.specs.declared.refused.Refused.TheVariants as lack
 use Rattle.lto_fault.specs.declared.refusal.Refusal.{Refusal}
 use Rattle.lto_fault.specs.declared.refusal.Refusal.TheVariants as refusal
-use Rattle.lto_fault.specs.declared.refusal.TargetLine as told
-use Rattle.lto_fault.specs.declared.refusal.TargetLine.TheVariants as told_line
 use Rattle.thin_link.specs.Linking.{IsIndex}
 
 -- ---- how it is told: modules by the names of their files
@@ -21,12 +18,8 @@ use Rattle.thin_link.specs.Linking.{IsIndex}
 abbrev pub file : List (List ℕ) → ℕ → List ℕ
 file files k = slice_index_or files k []
 
-abbrev pub target : TargetLine → told.TargetLine
-target line.Datalayout = told_line.Datalayout
-target line.Triple = told_line.Triple
-
 abbrev pub clash_refusal : List (List ℕ) → Clash → Refusal
-clash_refusal files (clash.TargetClash line a b) = refusal.TargetClash (target line) (file files a) (file files b)
+clash_refusal files (clash.TargetClash line a b) = refusal.TargetClash line (file files a) (file files b)
 clash_refusal files (clash.DuplicateSymbol name a b) = refusal.DuplicateSymbol name (file files a) (file files b)
 clash_refusal files (clash.KindClash name f v) = refusal.KindClash name (file files f) (file files v)
 

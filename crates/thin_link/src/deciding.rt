@@ -16,7 +16,7 @@ use ir_tree::{Text, Verified};
 use liveness::{LiveError, live};
 use lto_fault::Refusal;
 use std::alloc::Global;
-use symbol_resolve::{Resolution, ResolveError, resolve};
+use symbol_resolve::{ClashError, Resolution, resolve};
 
 /// What the thin link of modules decides.
 #[derive(Drop)]
@@ -42,8 +42,8 @@ fn resolved<'a>(
 {
     match resolve(alloc, modules) {
         Ok(resolution) => Ok(resolution),
-        Err(ResolveError::NoMemory) => Err(Refusal::NoMemory),
-        Err(ResolveError::Fault(clash)) => match clash_refusal(alloc, files, clash) {
+        Err(ClashError::NoMemory) => Err(Refusal::NoMemory),
+        Err(ClashError::Fault(clash)) => match clash_refusal(alloc, files, clash) {
             Ok(why) => Err(why),
             Err(_) => Err(Refusal::NoMemory),
         },

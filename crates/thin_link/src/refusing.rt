@@ -1,10 +1,10 @@
 //! Refusals, which tell modules by the names of their files.
 ghost use Rattle.std.specs.Prelude.{◌≡◌, IfOk};
-ghost use Rattle.thin_link.specs.Refusing.{clash_refusal, file, lack_refusal, target};
+ghost use Rattle.thin_link.specs.Refusing.{clash_refusal, file, lack_refusal};
 
 use ir_tree::{Duplicate, Text};
 use liveness::Refused;
-use lto_fault::{Refusal, TargetLine};
+use lto_fault::Refusal;
 use std::alloc::{AllocError, Global};
 use symbol_resolve::Clash;
 
@@ -32,15 +32,6 @@ fn file_pair(
     Ok((first, second))
 }
 
-fn target(line: symbol_resolve::TargetLine) -> TargetLine
-    ensures { result ≡ target line }
-{
-    match line {
-        symbol_resolve::TargetLine::Datalayout => TargetLine::Datalayout,
-        symbol_resolve::TargetLine::Triple => TargetLine::Triple,
-    }
-}
-
 /// How it is told that two modules can't be linked.
 pub(crate) fn clash_refusal(
     alloc: Global,
@@ -56,9 +47,8 @@ pub(crate) fn clash_refusal(
             second,
         } => {
             let (first, second) = file_pair(alloc, files, first, second)?;
-            let target = target(line);
             Ok(Refusal::TargetClash {
-                target,
+                target: line,
                 first,
                 second,
             })

@@ -1,6 +1,6 @@
 -- From a command to the words that ask for it, and back.
 use Rattle.std.proofs.Common.{ℕ, ◌≡◌, ◌⊎◌, true, List, [], ◌∷◌, ◌++◌, OnErr, OnOk, Option, Some, None, Result, Ok, Err, ap, inl, inr, refl, subst}
-use Rattle.lto_fault.specs.declared.kind.Kind.{Kind}
+use Rattle.lto_fault.specs.declared.kind.RefusalKind.{RefusalKind}
 use Rattle.lto_fault.specs.declared.refusal.Refusal.{Refusal}
 use Rattle.lto_words.specs.Fetching.{FetchFailed, fetch_call, fetch_calls}
 use Rattle.lto_words.specs.Links.{all_files}
@@ -156,7 +156,7 @@ module _ (options : LinkOptions) (list : List ℕ) (files : FilesSeen) where
   list_bad None made = record { calls = fetch_call list None ∷ []; made = made; no_put = tt }
   list_bad (Some bytes) made = record { calls = fetch_call list (Some bytes) ∷ []; made = made; no_put = tt }
 
-  batch_refused : (file : List ℕ) (line : ℕ) (kind : Kind) → ListIsBad list files file line kind ⊎ LinkCannotRead options list files file line kind → DidNoPut files.did
+  batch_refused : (file : List ℕ) (line : ℕ) (kind : RefusalKind) → ListIsBad list files file line kind ⊎ LinkCannotRead options list files file line kind → DidNoPut files.did
   batch_refused file line kind (inl x) = list_bad x.given x.calls
   batch_refused file line kind (inr x) = given_no_put list x.links x.given files.did x.fetched
 
@@ -228,7 +228,7 @@ module _ (words : List (List ℕ)) (s : Seen) (i : RestSeen) where
 -- ---- before anything is printed, or taken from the input
 
 module _ (s : Seen) (i : RestSeen) where
-  refused_unused : (c : Command) (file : List ℕ) (line : ℕ) (kind : Kind) → (causes c s i).refused file line kind → i.untaken × s.unprinted
+  refused_unused : (c : Command) (file : List ℕ) (line : ℕ) (kind : RefusalKind) → (causes c s i).refused file line kind → i.untaken × s.unprinted
   refused_unused (Link options out names) file line kind x = (x.1, x.0.1)
   refused_unused (Index exports limit names) file line kind x = (x.1, x.0.1)
   refused_unused (Batch options list) file line kind x = (x.1, x.0.1)
@@ -249,7 +249,7 @@ module _ (s : Seen) (i : RestSeen) where
   unfit_unused (Run root args steps names) name x = x.so.unused
   unfit_unused (Gen seed modules jobs) name x = absurd x
 
-  pub asked_refused : (words : List (List ℕ)) (file : List ℕ) (line : ℕ) (kind : Kind) → (causes_of words s i).refused file line kind → i.untaken × s.unprinted
+  pub asked_refused : (words : List (List ℕ)) (file : List ℕ) (line : ℕ) (kind : RefusalKind) → (causes_of words s i).refused file line kind → i.untaken × s.unprinted
   asked_refused words file line kind x = refused_unused x.command file line kind x.so
 
   pub asked_unlinked : (words : List (List ℕ)) (why : Refusal) → (causes_of words s i).unlinked why → i.untaken × s.unprinted

@@ -4,7 +4,7 @@ use Rattle.std.specs.List.{AllByRecursion}
 use Rattle.std.specs.Prelude.{IfSome}
 use Rattle.link_one.specs.Laws.{AcceptedIsNotRefused, AcceptedIsOne, RefusedIsOne}
 use Rattle.link_one.specs.LinkedLaws.{UnlinkedIsOne}
-use Rattle.lto_fault.specs.declared.kind.Kind.{Kind}
+use Rattle.lto_fault.specs.declared.kind.RefusalKind.{RefusalKind}
 use Rattle.lto_fault.specs.declared.refusal.Refusal.{Refusal}
 use Rattle.lto_outside.specs.Store.{Store}
 use Rattle.lto_words.specs.declared.request.LinkOptions.{LinkOptions}
@@ -32,7 +32,7 @@ module _ (held : Store) (list : List ℕ) where
   one_links : (links others : List ListedLink) → HoldsList held list links → HoldsList held list others → links ≡ others
   one_links links others a b = list_laws.one_list b.bytes links others (subst (λ (bs : List ℕ). IsList bs links) (same_bytes a.bytes b.bytes a.there.0 b.there.0) a.is) b.is
 
-  read_or_bad : (links : List ListedLink) (line : ℕ) (kind : Kind) → HoldsList held list links → HoldsBadList held list line kind → ⊥
+  read_or_bad : (links : List ListedLink) (line : ℕ) (kind : RefusalKind) → HoldsList held list links → HoldsBadList held list line kind → ⊥
   read_or_bad links line kind a b = by b.fault
     where
       same : a.bytes ≡ b.bytes
@@ -42,7 +42,7 @@ module _ (held : Store) (list : List ℕ) where
       by (inl long) = absurd (omega (arith, ap length same, a.there.1, long.0))
       by (inr bad) = list_laws.list_has_no_bad_line b.bytes links line (subst (λ (bs : List ℕ). IsList bs links) same a.is) bad.1
 
-  one_bad_list : (line other : ℕ) (kind another : Kind) → HoldsBadList held list line kind → HoldsBadList held list other another → (line ≡ other) × (kind ≡ another)
+  one_bad_list : (line other : ℕ) (kind another : RefusalKind) → HoldsBadList held list line kind → HoldsBadList held list other another → (line ≡ other) × (kind ≡ another)
   one_bad_list line other kind another a b = by (subst (λ (bs : List ℕ). AreBadLines bs line kind) (same_bytes a.bytes b.bytes a.here b.here) a.fault) b.fault
     where
       by : AreBadLines b.bytes line kind → AreBadLines b.bytes other another → (line ≡ other) × (kind ≡ another)
@@ -70,19 +70,19 @@ module _ (options : LinkOptions) (held : Store) where
 -- ---- a batch
 
 module _ (apart : AcceptedIsNotRefused) (accepted : AcceptedIsOne) (options : LinkOptions) (list : List ℕ) (held : Store) where
-  abbrev bad_at : List ℕ → ℕ → Kind → ListedLink → Type 0
+  abbrev bad_at : List ℕ → ℕ → RefusalKind → ListedLink → Type 0
   bad_at file line kind link = HoldFirstBad held link.files file line kind
 
   abbrev unlinkable_at : Refusal → ListedLink → Type 0
   unlinkable_at why link = HoldUnlinkable options link.files held why
 
-  not_bad : (file : List ℕ) (line : ℕ) (kind : Kind) (link : ListedLink) → HoldLinkable options link.files held → bad_at file line kind link → ⊥
+  not_bad : (file : List ℕ) (line : ℕ) (kind : RefusalKind) (link : ListedLink) → HoldLinkable options link.files held → bad_at file line kind link → ⊥
   not_bad file line kind link l bad = linkable_bad held options link.files apart file line kind l bad
 
   not_unlinkable : (why : Refusal) (link : ListedLink) → HoldLinkable options link.files held → unlinkable_at why link → ⊥
   not_unlinkable why link l u = linkable_unlinkable held options link.files accepted why l u
 
-  pub can_batch_bad : (file : List ℕ) (line : ℕ) (kind : Kind) → CanBatch options list held → HoldBatchBad options list held file line kind → ⊥
+  pub can_batch_bad : (file : List ℕ) (line : ℕ) (kind : RefusalKind) → CanBatch options list held → HoldBatchBad options list held file line kind → ⊥
   can_batch_bad file line kind can (inl bad) = read_or_bad held list can.links line kind can.listed bad.1
   can_batch_bad file line kind can (inr stop) =
       all_linkable options held (bad_at file line kind) (not_bad file line kind) can.links can.each
@@ -93,13 +93,13 @@ module _ (apart : AcceptedIsNotRefused) (accepted : AcceptedIsOne) (options : Li
       all_linkable options held (unlinkable_at why) (not_unlinkable why) can.links can.each
       (subst (FirstHeld options held (unlinkable_at why)) (one_links held list stop.links can.links stop.listed can.listed) stop.first)
 
-  pub batch_unlinkable_bad : (why : Refusal) (file : List ℕ) (line : ℕ) (kind : Kind) → HoldBatchUnlinkable options list held why → HoldBatchBad options list held file line kind → ⊥
+  pub batch_unlinkable_bad : (why : Refusal) (file : List ℕ) (line : ℕ) (kind : RefusalKind) → HoldBatchUnlinkable options list held why → HoldBatchBad options list held file line kind → ⊥
   batch_unlinkable_bad why file line kind u (inl bad) = read_or_bad held list u.links line kind u.listed bad.1
   batch_unlinkable_bad why file line kind u (inr stop) =
       both_first options held (unlinkable_at why) (bad_at file line kind) ⊥ (λ link a b. unlinkable_bad held options link.files apart why file line kind a b) (not_unlinkable why) (not_bad file line kind) u.links u.first
       (subst (FirstHeld options held (bad_at file line kind)) (one_links held list stop.links u.links stop.listed u.listed) stop.first)
 
-  pub one_batch_bad : RefusedIsOne → (file other_file : List ℕ) (line other : ℕ) (kind another : Kind) → HoldBatchBad options list held file line kind → HoldBatchBad options list held other_file other another
+  pub one_batch_bad : RefusedIsOne → (file other_file : List ℕ) (line other : ℕ) (kind another : RefusalKind) → HoldBatchBad options list held file line kind → HoldBatchBad options list held other_file other another
       → (file ≡ other_file) × (line ≡ other) × (kind ≡ another)
   one_batch_bad one file other_file line other kind another (inl a) (inl b) =
       let same = one_bad_list held list line other kind another a.1 b.1 in (a.0 ∙ sym b.0, same.0, same.1)

@@ -5,7 +5,7 @@ use Rattle.std.specs.List.{AllByRecursion, AllZip}
 use Rattle.std.specs.Prelude.{IfSome}
 use Rattle.std.specs.Str.{bytes_eq}
 use Rattle.std.proofs.lemmas.Slice.Eq.{bytes_eq-Decides}
-use Rattle.lto_fault.specs.declared.kind.Kind.{Kind}
+use Rattle.lto_fault.specs.declared.kind.RefusalKind.{RefusalKind}
 use Rattle.lto_fault.specs.declared.refusal.Refusal.{Refusal}
 use Rattle.lto_outside.specs.Calls.{Call, Fetched, Put}
 use Rattle.lto_outside.specs.Replay.{Follows, Replays}
@@ -200,7 +200,7 @@ module _ (options : LinkOptions) (list : List ℕ) (trusted : Type 0) (files : F
 -- ---- why there is none
 
 module _ (options : LinkOptions) (list : List ℕ) (files : FilesSeen) (tells : (calls : List Call) → files.did calls → Follows files.held calls files.holds) where
-  bad_list : (file : List ℕ) (line : ℕ) (kind : Kind) (b : ListIsBad list files file line kind) (given : Option (List ℕ)) → b.given ≡ given → (old new : Option Store) → ((calls : List Call) → files.did calls → Follows old calls new)
+  bad_list : (file : List ℕ) (line : ℕ) (kind : RefusalKind) (b : ListIsBad list files file line kind) (given : Option (List ℕ)) → b.given ≡ given → (old new : Option Store) → ((calls : List Call) → files.did calls → Follows old calls new)
       → IfSome old (λ held. HoldsBadList held list line kind)
   bad_list file line kind b given is None new follows = tt
   bad_list file line kind b given is (Some old) None follows = absurd (follows _ b.calls)
@@ -212,7 +212,7 @@ module _ (options : LinkOptions) (list : List ℕ) (files : FilesSeen) (tells : 
       let r = subst (λ (g : Option (List ℕ)). Replays old (fetch_call list g ∷ []) new) is (follows _ b.calls) in
       record { bytes = bytes; here = r.0; fault = inr (subst (λ (g : Option (List ℕ)). IsBadList g line kind) is b.bad) }
 
-  pub bad_list_told : (file : List ℕ) (line : ℕ) (kind : Kind) → ListIsBad list files file line kind → IfSome files.held (λ held. HoldsBadList held list line kind)
+  pub bad_list_told : (file : List ℕ) (line : ℕ) (kind : RefusalKind) → ListIsBad list files file line kind → IfSome files.held (λ held. HoldsBadList held list line kind)
   bad_list_told file line kind b = bad_list file line kind b b.given refl files.held files.holds tells
 
   stops : (P : ListedLink → List (Option (List ℕ)) → Type 0) (Q : Store → ListedLink → Type 0) → ((held : Store) (link : ListedLink) (g : List (Option (List ℕ))) → AllZip (Gives held) link.files g → P link g → Q held link)

@@ -5,7 +5,7 @@ use Rattle.std.specs.Prelude.{IfErr, slice_get}
 use Rattle.std.proofs.lemmas.Grind.{take_at_read}
 use Rattle.std.proofs.lemmas.Option.{get_or_from_slice_get}
 use Rattle.link_one.proofs.Zipping.{zip_more}
-use Rattle.lto_fault.specs.declared.kind.Kind.{Kind}
+use Rattle.lto_fault.specs.declared.kind.RefusalKind.{RefusalKind}
 use Rattle.lto_outside.specs.Calls.{Call, DidNoPut, Fetched}
 use Rattle.lto_outside.specs.Cause.{Rose}
 use Rattle.lto_outside.specs.declared.fault.FetchFault.TheVariants.{Fault}
@@ -30,7 +30,7 @@ use Rattle.thinlto_main.proofs.Reading.{no_put_fetches}
 -- ---- the list file
 
 -- a list that is refused is bad
-pub list_refused : (list : List ℕ) (files : FilesSeen) (given : Option (List ℕ)) (P : ℕ → Kind → Type 0) → ((line : ℕ) (kind : Kind) → P line kind → IsBadList given line kind) → files.did (fetch_call list given ∷ []) → DidNoPut files.did
+pub list_refused : (list : List ℕ) (files : FilesSeen) (given : Option (List ℕ)) (P : ℕ → RefusalKind → Type 0) → ((line : ℕ) (kind : RefusalKind) → P line kind → IsBadList given line kind) → files.did (fetch_call list given ∷ []) → DidNoPut files.did
     → Implies (record never { refused = λ file line kind. (file ≡ list) × P line kind; memory = Unit {0} }) (listing list files)
 list_refused list files given P bad calls calm = record {
   done = λ x. x;

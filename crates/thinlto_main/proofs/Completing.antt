@@ -8,7 +8,7 @@ use Rattle.ir_meaning.specs.Run.{Ending, Returned, run}
 use Rattle.ir_meaning.specs.declared.value.Value.{Value}
 use Rattle.link_one.specs.Laws.{AcceptedIsNotRefused, AcceptedIsOne, RefusedIsOne}
 use Rattle.link_one.specs.LinkedLaws.{UnlinkedIsOne}
-use Rattle.lto_fault.specs.declared.kind.Kind.{Kind}
+use Rattle.lto_fault.specs.declared.kind.RefusalKind.{RefusalKind}
 use Rattle.lto_fault.specs.declared.refusal.Refusal.{Refusal}
 use Rattle.lto_outside.specs.Cause.{Rose}
 use Rattle.lto_outside.specs.Store.{Store}
@@ -86,10 +86,10 @@ module _ (apart : AcceptedIsNotRefused) (accepted : AcceptedIsOne) (s : Seen) (i
   done_fine : (options : LinkOptions) (names : List (List ℕ)) → IsTold s.files.held (CanBeDone options names s.files) → ¬ (Rose s.files.faults s.files.faults_now)
   done_fine options names can = told_fact (CanBeDone options names s.files) (λ held c. c.1) s.files.held can
 
-  reported_bad : (exports names : List (List ℕ)) (limit : ℕ) (done : Bool) (file : List ℕ) (line : ℕ) (kind : Kind) (held : Store) → HoldFirstBad held names file line kind → HoldReport exports names limit s done held → ⊥
+  reported_bad : (exports names : List (List ℕ)) (limit : ℕ) (done : Bool) (file : List ℕ) (line : ℕ) (kind : RefusalKind) (held : Store) → HoldFirstBad held names file line kind → HoldReport exports names limit s done held → ⊥
   reported_bad exports names limit done file line kind held bad report = none_bad held apart names report.ms file line kind report.modules bad
 
-  unlinked_bad : (exports names : List (List ℕ)) (why : Refusal) (file : List ℕ) (line : ℕ) (kind : Kind) (held : Store) → HoldUnlinked exports names held why → HoldFirstBad held names file line kind → ⊥
+  unlinked_bad : (exports names : List (List ℕ)) (why : Refusal) (file : List ℕ) (line : ℕ) (kind : RefusalKind) (held : Store) → HoldUnlinked exports names held why → HoldFirstBad held names file line kind → ⊥
   unlinked_bad exports names why file line kind held unlinked bad = none_bad held apart names unlinked.ms file line kind unlinked.modules bad
 
   reported_unlinked : ReportedIsNotRefused → (exports names : List (List ℕ)) (limit : ℕ) (done : Bool) (why : Refusal) (held : Store) → HoldUnlinked exports names held why → HoldReport exports names limit s done held → ⊥
@@ -101,7 +101,7 @@ module _ (apart : AcceptedIsNotRefused) (accepted : AcceptedIsOne) (s : Seen) (i
   one_unlinked one exports names why other held a b =
       one names exports a.ms other why (subst (λ (l : List Module). IsRefused names l exports other) (one_list held accepted names b.ms a.ms b.modules a.modules) b.refused) a.refused
 
-  can_bad : (exports names : List (List ℕ)) (file : List ℕ) (line : ℕ) (kind : Kind) (held : Store) → CanLink exports names s.files held → HoldFirstBad held names file line kind → ⊥
+  can_bad : (exports names : List (List ℕ)) (file : List ℕ) (line : ℕ) (kind : RefusalKind) (held : Store) → CanLink exports names s.files held → HoldFirstBad held names file line kind → ⊥
   can_bad exports names file line kind held can bad = none_bad held apart names can.ms file line kind can.modules bad
 
   can_unlinked : (exports names : List (List ℕ)) (why : Refusal) (held : Store) → CanLink exports names s.files held → HoldUnlinked exports names held why → ⊥
@@ -114,12 +114,12 @@ module _ (apart : AcceptedIsNotRefused) (accepted : AcceptedIsOne) (s : Seen) (i
   -- ---- the modules of a run
 
   module _ (root : List ℕ) (names : List (List ℕ)) (P : List Module → Type 0) where
-    modules_bad : (file : List ℕ) (line : ℕ) (kind : Kind) → IsTold s.files.held (λ held. HoldFirstBad held names file line kind) → OfModules (Held names s.files) root names P → ⊥
+    modules_bad : (file : List ℕ) (line : ℕ) (kind : RefusalKind) → IsTold s.files.held (λ held. HoldFirstBad held names file line kind) → OfModules (Held names s.files) root names P → ⊥
     modules_bad file line kind bad o =
         of_told (λ (held : Store). HoldFirstBad held names file line kind) (λ (held : Store). AllZip (HoldsModule held) names o.ms)
         (λ held b good. none_bad held apart names o.ms file line kind good b) s.files.held bad o.is
 
-    bad_modules : (file : List ℕ) (line : ℕ) (kind : Kind) → IsTold s.files.held (λ held. OfModules (AllZip (HoldsModule held) names) root names P) → IfSome s.files.held (λ held. HoldFirstBad held names file line kind) → ⊥
+    bad_modules : (file : List ℕ) (line : ℕ) (kind : RefusalKind) → IsTold s.files.held (λ held. OfModules (AllZip (HoldsModule held) names) root names P) → IfSome s.files.held (λ held. HoldFirstBad held names file line kind) → ⊥
     bad_modules file line kind can bad =
         of_told (λ (held : Store). OfModules (AllZip (HoldsModule held) names) root names P) (λ (held : Store). HoldFirstBad held names file line kind)
         (λ held o b. none_bad held apart names o.ms file line kind o.is b) s.files.held can bad
@@ -261,7 +261,7 @@ module _ (apart : AcceptedIsNotRefused) (accepted : AcceptedIsOne) (s : Seen) (i
 
   -- ---- nothing but a file
 
-  pub refuses : RefusedIsOne → (c : Command) (file : List ℕ) (line : ℕ) (kind : Kind) → MustRefuse c s file line kind
+  pub refuses : RefusedIsOne → (c : Command) (file : List ℕ) (line : ℕ) (kind : RefusalKind) → MustRefuse c s file line kind
       → Implies (telling c s i) (record never { refused = λ f l k. (f ≡ file) × (l ≡ line) × (k ≡ kind); memory = Unit {0} })
   refuses one (Link options out names) file line kind must = record {
     done = λ x. of_told _ _ (λ held bad l. linkable_bad held options names apart file line kind l bad) s.files.held must.0 (link_done _ options out names _ s.files.held s.files.holds x);

@@ -4,7 +4,7 @@ use Rattle.std.specs.List.{AllZip}
 use Rattle.ir_tree.specs.declared.module.Module.{Module}
 use Rattle.link_one.specs.Accepted.{Accepts}
 use Rattle.link_one.specs.Laws.{AcceptedIsNotRefused, AcceptedIsOne, RefusedIsOne}
-use Rattle.lto_fault.specs.declared.kind.Kind.{Kind}
+use Rattle.lto_fault.specs.declared.kind.RefusalKind.{RefusalKind}
 use Rattle.lto_words.specs.Fetching.{fetch_calls}
 use Rattle.lto_outside.specs.Calls.{Call, Fetched, NoPut, Put}
 use Rattle.lto_outside.specs.Replay.{Follows, Replays}
@@ -53,7 +53,7 @@ module _ (held : Store) where
   held_module name None m gives read = absurd read
   held_module name (Some bytes) m gives read = record { bytes = bytes; here = gives; short = read.0; accepted = read.1 }
 
-  held_bad : (name : List ℕ) (g : Option (List ℕ)) (line : ℕ) (kind : Kind) → Gives held name g → IsBad g line kind → HoldsBad held name line kind
+  held_bad : (name : List ℕ) (g : Option (List ℕ)) (line : ℕ) (kind : RefusalKind) → Gives held name g → IsBad g line kind → HoldsBad held name line kind
   held_bad name None line kind gives bad = record { bytes = gives.0; here = gives.1; fault = inl (gives.2, bad.0, bad.1) }
   held_bad name (Some bytes) line kind gives bad = record { bytes = bytes; here = gives; fault = inr bad }
 
@@ -65,7 +65,7 @@ module _ (held : Store) where
   held_modules (name ∷ names) (g ∷ given) [] gives read = absurd read
   held_modules (name ∷ names) (g ∷ given) (m ∷ ms) gives read = (held_module name g m gives.0 read.0, held_modules names given ms gives.1 read.1)
 
-  pub held_first_bad : (names : List (List ℕ)) (given : List (Option (List ℕ))) (file : List ℕ) (line : ℕ) (kind : Kind) → AllZip (Gives held) names given
+  pub held_first_bad : (names : List (List ℕ)) (given : List (Option (List ℕ))) (file : List ℕ) (line : ℕ) (kind : RefusalKind) → AllZip (Gives held) names given
       → FirstBad names given file line kind → HoldFirstBad held names file line kind
   held_first_bad [] given file line kind gives bad = absurd bad
   held_first_bad (name ∷ names) [] file line kind gives bad = absurd bad
@@ -119,7 +119,7 @@ module _ (held : Store) where
       let first : m ≡ n = one a.0.bytes m n a.0.accepted (subst (λ (l : List ℕ). Accepts l n) bytes b.0.accepted) in
       let rest : ms ≡ ns = one_list one names ms ns a.1 b.1 in λ i. first i ∷ rest i
 
-  not_both : AcceptedIsNotRefused → (name : List ℕ) (m : Module) (line : ℕ) (kind : Kind) → HoldsModule held name m → HoldsBad held name line kind → ⊥
+  not_both : AcceptedIsNotRefused → (name : List ℕ) (m : Module) (line : ℕ) (kind : RefusalKind) → HoldsModule held name m → HoldsBad held name line kind → ⊥
   not_both apart name m line kind good bad = at bad.fault
     where
       same : good.bytes ≡ bad.bytes
@@ -129,13 +129,13 @@ module _ (held : Store) where
       at (inl long) = absurd (omega (arith, ap length same, good.short, long.0))
       at (inr refuses) = apart bad.bytes m line kind (subst (λ (l : List ℕ). Accepts l m) same good.accepted) refuses.1
 
-  pub none_bad : AcceptedIsNotRefused → (names : List (List ℕ)) (ms : List Module) (file : List ℕ) (line : ℕ) (kind : Kind) → AllZip (HoldsModule held) names ms → HoldFirstBad held names file line kind → ⊥
+  pub none_bad : AcceptedIsNotRefused → (names : List (List ℕ)) (ms : List Module) (file : List ℕ) (line : ℕ) (kind : RefusalKind) → AllZip (HoldsModule held) names ms → HoldFirstBad held names file line kind → ⊥
   none_bad apart [] ms file line kind good bad = bad
   none_bad apart (name ∷ names) [] file line kind good bad = good
   none_bad apart (name ∷ names) (m ∷ ms) file line kind good (inl bad) = not_both apart name m line kind good.0 bad.1
   none_bad apart (name ∷ names) (m ∷ ms) file line kind good (inr (first, bad)) = none_bad apart names ms file line kind good.1 bad
 
-  one_fault : RefusedIsOne → (name : List ℕ) (line other : ℕ) (kind another : Kind) → HoldsBad held name line kind → HoldsBad held name other another → (line ≡ other) × (kind ≡ another)
+  one_fault : RefusedIsOne → (name : List ℕ) (line other : ℕ) (kind another : RefusalKind) → HoldsBad held name line kind → HoldsBad held name other another → (line ≡ other) × (kind ≡ another)
   one_fault one name line other kind another a b = by (subst (λ (l : List ℕ). AreBad l line kind) (same_bytes name a.bytes b.bytes a.here b.here) a.fault) b.fault
     where
       by : AreBad b.bytes line kind → AreBad b.bytes other another → (line ≡ other) × (kind ≡ another)
@@ -144,7 +144,7 @@ module _ (held : Store) where
       by (inr x) (inl y) = absurd (omega (arith, x.0, y.0))
       by (inr x) (inr y) = one b.bytes line other kind another x.1 y.1
 
-  pub one_first_bad : AcceptedIsNotRefused → RefusedIsOne → (names : List (List ℕ)) (file other_file : List ℕ) (line other : ℕ) (kind another : Kind)
+  pub one_first_bad : AcceptedIsNotRefused → RefusedIsOne → (names : List (List ℕ)) (file other_file : List ℕ) (line other : ℕ) (kind another : RefusalKind)
       → HoldFirstBad held names file line kind → HoldFirstBad held names other_file other another → (file ≡ other_file) × (line ≡ other) × (kind ≡ another)
   one_first_bad apart one [] file other_file line other kind another a b = absurd a
   one_first_bad apart one (name ∷ names) file other_file line other kind another (inl a) (inl b) =

@@ -5,7 +5,7 @@ use Rattle.link_one.specs.Laws.{AcceptedIsNotRefused, AcceptedIsOne}
 use Rattle.link_one.specs.LinkedLaws.{UnlinkedIsOne}
 use Rattle.link_one.specs.Refusing.{IsUnlinked}
 use Rattle.promote_rename.specs.Suffixes.{suffix_of}
-use Rattle.lto_fault.specs.declared.kind.Kind.{Kind}
+use Rattle.lto_fault.specs.declared.kind.RefusalKind.{RefusalKind}
 use Rattle.lto_fault.specs.declared.refusal.Refusal.{Refusal}
 use Rattle.lto_outside.specs.Store.{Store}
 use Rattle.lto_words.specs.declared.request.LinkOptions.{LinkOptions}
@@ -13,11 +13,11 @@ use Rattle.thinlto_main.specs.Holding.{HoldFirstBad, HoldLinkable, HoldModules, 
 use Rattle.thinlto_main.proofs.Held.{hold_modules, none_bad, one_inputs, one_list}
 
 module _ (held : Store) (options : LinkOptions) (names : List (List ℕ)) where
-  pub linkable_bad : AcceptedIsNotRefused → (file : List ℕ) (line : ℕ) (kind : Kind) → HoldLinkable options names held → HoldFirstBad held names file line kind → ⊥
+  pub linkable_bad : AcceptedIsNotRefused → (file : List ℕ) (line : ℕ) (kind : RefusalKind) → HoldLinkable options names held → HoldFirstBad held names file line kind → ⊥
   linkable_bad apart file line kind l bad =
       none_bad held apart names l.ms file line kind (hold_modules held names l.inputs l.ms l.modules.there l.modules.accepted) bad
 
-  pub unlinkable_bad : AcceptedIsNotRefused → (why : Refusal) (file : List ℕ) (line : ℕ) (kind : Kind) → HoldUnlinkable options names held why → HoldFirstBad held names file line kind → ⊥
+  pub unlinkable_bad : AcceptedIsNotRefused → (why : Refusal) (file : List ℕ) (line : ℕ) (kind : RefusalKind) → HoldUnlinkable options names held why → HoldFirstBad held names file line kind → ⊥
   unlinkable_bad apart why file line kind u bad =
       none_bad held apart names u.ms file line kind (hold_modules held names u.inputs u.ms u.modules.there u.modules.accepted) bad
 

@@ -2,7 +2,7 @@
 use Rattle.std.proofs.Common.{ℕ, List, OnOk, Result}
 use Rattle.link_one.specs.Laws.{AcceptedIsNotRefused, AcceptedIsOne, RefusedIsOne}
 use Rattle.link_one.specs.LinkedLaws.{UnlinkedIsOne}
-use Rattle.lto_fault.specs.declared.kind.Kind.{Kind}
+use Rattle.lto_fault.specs.declared.kind.RefusalKind.{RefusalKind}
 use Rattle.lto_fault.specs.declared.refusal.Refusal.{Refusal}
 use Rattle.lto_outside.specs.Calls.{Call, DidNoPut}
 use Rattle.lto_outside.specs.Replay.{Follows}
@@ -50,7 +50,7 @@ pub record Judged {A : Type 0} (words : List (List ℕ)) (s : Seen) (i : RestSee
   pub holds_unreturned : OnUnreturned r (λ why. Asked words (λ c. (told c s i).unreturned why))
   pub stay : OnUnwritten r (Stays s.files.held s.files.holds)
   pub complete : Asked words (λ c. CanDo c s i) → Succeeds r
-  pub complete_refusal : (file : List ℕ) (line : ℕ) (kind : Kind) → Asked words (λ c. MustRefuse c s file line kind) → IsRefusal r file line kind
+  pub complete_refusal : (file : List ℕ) (line : ℕ) (kind : RefusalKind) → Asked words (λ c. MustRefuse c s file line kind) → IsRefusal r file line kind
   pub complete_unlinked : (why : Refusal) → Asked words (λ c. MustNotLink c s why) → IsUnlinked r why
   pub complete_unfit : (name : List ℕ) → Asked words (λ c. MustNotBegin c s name) → IsUnfitted r name
   pub complete_unreturned : (why : Refusal) → Asked words (λ c. MustNotReturn c s i why) → IsUnreturned r why

@@ -5,7 +5,7 @@ use Rattle.std.specs.List.{AllZip}
 use Rattle.std.proofs.lemmas.Slice.Zip.{AllZip-long}
 use Rattle.ir_tree.specs.declared.module.Module.{Module}
 use Rattle.link_one.specs.Laws.{AcceptedIsOne}
-use Rattle.lto_fault.specs.declared.kind.Kind.{Kind}
+use Rattle.lto_fault.specs.declared.kind.RefusalKind.{RefusalKind}
 use Rattle.lto_fault.specs.declared.refusal.Refusal.{Refusal}
 use Rattle.ir_tree.specs.Failures.{IfFault}
 use Rattle.lto_words.specs.Fetching.{FetchFailed, fetch_calls}
@@ -50,7 +50,7 @@ mapped_next {X} {Y} {Z} f g xs i x z out after lt is same before pushed =
     ∙ sym (map-append g (map f (take i xs)) (f here ∷ [])) ∙ ap (λ (l : List Y). map g l) (sym (map-append f (take i xs) (here ∷ []))) ∙ ap (λ (l : List X). map g (map f l)) (sym (take_more xs i x lt))
 
 -- a file that isn't read, behind others that are
-pub first_bad : (names : List (List ℕ)) (given : List (Option (List ℕ))) (ms : List Module) (i : ℕ) (name : List ℕ) (bytes : Option (List ℕ)) (file : List ℕ) (line : ℕ) (kind : Kind)
+pub first_bad : (names : List (List ℕ)) (given : List (Option (List ℕ))) (ms : List Module) (i : ℕ) (name : List ℕ) (bytes : Option (List ℕ)) (file : List ℕ) (line : ℕ) (kind : RefusalKind)
     → length given ≡ length names → i < length names → name ≡ get_or names i name → bytes ≡ get_or given i bytes → AllZip IsRead (take i given) ms
     → (file ≡ name) × IsBad bytes line kind → FirstBad names given file line kind
 first_bad [] given ms i name bytes file line kind each lt name_is bytes_is read bad = absurd (omega (arith, lt))
@@ -63,7 +63,7 @@ first_bad (n ∷ names) (b ∷ given) (m ∷ ms) (suc i) name bytes file line ki
 -- ---- answers
 
 -- of a file that is refused, that it is bad
-pub bad_because : (name : List ℕ) (bytes : Option (List ℕ)) (line : ℕ) (kind : Kind) → IsBad bytes line kind → (why : Refusal)
+pub bad_because : (name : List ℕ) (bytes : Option (List ℕ)) (line : ℕ) (kind : RefusalKind) → IsBad bytes line kind → (why : Refusal)
     → Because (record never { refused = λ file at told. (file ≡ name) × (at ≡ line) × (told ≡ kind); memory = Unit {0} }) why
     → Because (record never { refused = λ file at told. (file ≡ name) × IsBad bytes at told; memory = Unit {0} }) why
 bad_because name bytes line kind bad why h =
@@ -71,7 +71,7 @@ bad_because name bytes line kind bad why h =
       done = λ x. x;
       usage = λ x. x;
       unread = λ n x. x;
-      refused = λ file at told x. (x.0, subst (λ (n : ℕ). IsBad bytes n told) (sym x.1) (subst (λ (k : Kind). IsBad bytes line k) (sym x.2) bad));
+      refused = λ file at told x. (x.0, subst (λ (n : ℕ). IsBad bytes n told) (sym x.1) (subst (λ (k : RefusalKind). IsBad bytes line k) (sym x.2) bad));
       unlinked = λ w x. x;
       unfit = λ n x. x;
       unwritten = λ n x. x;

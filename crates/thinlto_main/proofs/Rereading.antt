@@ -15,7 +15,7 @@ use Rattle.ir_tree.specs.declared.module.Module.{Module}
 use Rattle.ir_tree.specs.declared.operand.Symbol.{Symbol}
 use Rattle.ir_meaning.specs.Refine.{Naming}
 use Rattle.symbol_resolve.specs.Clashes.{given_text, is_given, target_text}
-use Rattle.symbol_resolve.specs.declared.clash.TargetLine.TheVariants.{Triple}
+use Rattle.ir_tree.specs.declared.target_line.TargetLine.TheVariants.{Triple}
 use Rattle.merge_meaning.specs.Globals.{global_under, named_by}
 use Rattle.merge_meaning.specs.Laws.{PartsAreSound}
 use Rattle.merge_meaning.specs.Lives.{final_symbol, is_live, part_of, parts, parts_from}

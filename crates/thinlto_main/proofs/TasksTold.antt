@@ -4,7 +4,7 @@ use Rattle.std.proofs.Common.{◌≡◌, ◌↔◌, inl, inr, ℕ, List, [], map
 use Rattle.std.proofs.lemmas.List.Elements.{All-contains, All-nil, All-weaker}
 use Rattle.std.specs.List.{All, AllZip}
 use Rattle.std.specs.Prelude.{slice_index_or}
-use Rattle.ir_lex.specs.Heads.{name_head}
+use Rattle.ir_lex.specs.TokenKinds.{name_kind}
 use Rattle.ir_tree.specs.Names.{AllBytes}
 use Rattle.ir_tree.specs.Wholes.{IsVerified}
 use Rattle.ir_tree.specs.declared.module.GlobalValue.{GlobalValue}
@@ -36,11 +36,11 @@ putchar_bytes : AllBytes (codes "putchar")
 putchar_bytes = (omega arith, (omega arith, (omega arith, (omega arith, (omega arith, (omega arith, (omega arith, tt)))))))
 
 getchar_ordinary : IsOrdinary (codes "getchar")
-unfolding name_head
+unfolding name_kind
 getchar_ordinary = refl
 
 putchar_ordinary : IsOrdinary (codes "putchar")
-unfolding name_head
+unfolding name_kind
 putchar_ordinary = refl
 
 getchar_spelled : ValueSpelled getchar

@@ -4,7 +4,7 @@ use Rattle.std.specs.List.{AllZip}
 use Rattle.std.specs.Prelude.{IfSome}
 use Rattle.ir_tree.specs.declared.module.Module.{Module}
 use Rattle.link_one.specs.Laws.{AcceptedIsOne}
-use Rattle.lto_fault.specs.declared.kind.Kind.{Kind}
+use Rattle.lto_fault.specs.declared.kind.RefusalKind.{RefusalKind}
 use Rattle.lto_fault.specs.declared.refusal.Refusal.{Refusal}
 use Rattle.lto_words.specs.Fetching.{fetch_calls}
 use Rattle.lto_outside.specs.Calls.{Call, Put}
@@ -53,7 +53,7 @@ module _ (files : FilesSeen) (tells : (calls : List Call) → files.did calls �
   fetched_stay : (names : List (List ℕ)) (given : List (Option (List ℕ))) → AreFetched names given files.did → Stays files.held files.holds
   fetched_stay names given f = follows_same files.held files.holds _ (no_put_fetches names given) (tells _ f.calls)
 
-  pub bad_told : (names : List (List ℕ)) (file : List ℕ) (line : ℕ) (kind : Kind) → CannotRead names files file line kind → IfSome files.held (λ held. HoldFirstBad held names file line kind)
+  pub bad_told : (names : List (List ℕ)) (file : List ℕ) (line : ℕ) (kind : RefusalKind) → CannotRead names files file line kind → IfSome files.held (λ held. HoldFirstBad held names file line kind)
   bad_told names file line kind r = if_some_map _ _ (λ held gives. held_first_bad held names r.given file line kind gives r.first) files.held (fetched_told names r.given r.fetched)
 
   held_told : (names : List (List ℕ)) (ms : List Module) → AreRead names files.did ms → Held names files ms
@@ -147,7 +147,7 @@ module _ (accepted : AcceptedIsOne) (one : ReportIsOne) (s : Seen) (tells : (cal
   batch_unread list name (inl x) = x.rose
   batch_unread list name (inr x) = x.rose
 
-  batch_refused : (options : LinkOptions) (list file : List ℕ) (line : ℕ) (kind : Kind) → ListIsBad list s.files file line kind ⊎ LinkCannotRead options list s.files file line kind → IfSome s.files.held (λ held. HoldBatchBad options list held file line kind)
+  batch_refused : (options : LinkOptions) (list file : List ℕ) (line : ℕ) (kind : RefusalKind) → ListIsBad list s.files file line kind ⊎ LinkCannotRead options list s.files file line kind → IfSome s.files.held (λ held. HoldBatchBad options list held file line kind)
   batch_refused options list file line kind (inl x) = if_some_map _ _ (λ held bad. inl (x.named, bad)) s.files.held (bad_list_told options list s.files tells file line kind x)
   batch_refused options list file line kind (inr x) =
       if_some_map _ _ (λ held stop. inr stop) s.files.held

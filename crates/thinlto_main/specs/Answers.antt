@@ -1,6 +1,6 @@
 -- When each answer of the program comes.
 use Rattle.std.specs.Prelude.{◌≡◌, ◌⊎◌, ℕ, true, false, List, Result}
-use Rattle.lto_fault.specs.declared.kind.Kind.{Kind}
+use Rattle.lto_fault.specs.declared.kind.RefusalKind.{RefusalKind}
 use Rattle.lto_fault.specs.declared.refusal.Refusal.{Refusal}
 use Rattle.lto_words.specs.declared.request.Command.{Command}
 use Rattle.lto_words.specs.declared.request.Command.TheVariants.{Link, Batch, Index, Run, Gen}
@@ -76,7 +76,7 @@ Says (Gen seed modules jobs) s i notes = notes.silent
 abbrev pub Succeeds : {A : Type 0} → Result A Refusal → Type 0
 Succeeds r = Comes (record never { done = Unit {0}; memory = Unit {0} }) r
 
-abbrev pub IsRefusal : {A : Type 0} → Result A Refusal → List ℕ → ℕ → Kind → Type 0
+abbrev pub IsRefusal : {A : Type 0} → Result A Refusal → List ℕ → ℕ → RefusalKind → Type 0
 IsRefusal r file line kind = Comes (record never { refused = λ f l k. (f ≡ file) × (l ≡ line) × (k ≡ kind); memory = Unit {0} }) r
 
 abbrev pub IsUnlinked : {A : Type 0} → Result A Refusal → Refusal → Type 0

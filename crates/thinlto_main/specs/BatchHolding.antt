@@ -2,9 +2,9 @@
 use Rattle.std.specs.Prelude.{◌≡◌, ◌⊎◌, ◌<◌, ◌≤◌, ◌^◌, ℕ, List, [], ◌∷◌, length, take, slice_get, Option, Some, None, if◌then◌else◌, ⊤}
 use Rattle.std.specs.List.{AllByRecursion, AllZip}
 use Rattle.std.specs.Str.{bytes_eq}
-use Rattle.lto_fault.specs.declared.kind.Kind.{Kind}
+use Rattle.lto_fault.specs.declared.kind.RefusalKind.{RefusalKind}
 use Rattle.ir_tree.specs.declared.fault_kind.FaultKind.TheVariants.{Limit}
-use Rattle.lto_fault.specs.declared.kind.Kind.TheVariants.{BadLine, Unread}
+use Rattle.lto_fault.specs.declared.kind.RefusalKind.TheVariants.{BadLine, Unread}
 use Rattle.lto_fault.specs.declared.refusal.Refusal.{Refusal}
 use Rattle.lto_outside.specs.Store.{HasPart, Store}
 use Rattle.lto_words.specs.declared.request.LinkOptions.{LinkOptions}
@@ -21,10 +21,10 @@ pub record HoldsList (held : Store) (list : List ℕ) (links : List ListedLink) 
   pub is : IsList bytes links
 
 -- bytes past 16 MiB, which is told of line 0, or the number of the first line that is no link
-abbrev pub AreBadLines : List ℕ → ℕ → Kind → Type 0
+abbrev pub AreBadLines : List ℕ → ℕ → RefusalKind → Type 0
 AreBadLines bytes line kind = ((2 ^ 24 < length bytes) × (line ≡ 0) × (kind ≡ Unread Limit)) ⊎ ((length bytes ≤ 2 ^ 24) × FirstBadLine bytes line × (kind ≡ BadLine))
 
-pub record HoldsBadList (held : Store) (list : List ℕ) (line : ℕ) (kind : Kind) : Type 0 where
+pub record HoldsBadList (held : Store) (list : List ℕ) (line : ℕ) (kind : RefusalKind) : Type 0 where
   pub bytes : List ℕ
   pub here : held list ≡ Some bytes
   pub fault : AreBadLines bytes line kind
@@ -43,7 +43,7 @@ pub record HoldStop (options : LinkOptions) (list : List ℕ) (held : Store) (P 
   pub first : FirstHeld options held P links
 
 -- the first that is bad: the list, or one of the files of its links
-abbrev pub HoldBatchBad : LinkOptions → List ℕ → Store → List ℕ → ℕ → Kind → Type 0
+abbrev pub HoldBatchBad : LinkOptions → List ℕ → Store → List ℕ → ℕ → RefusalKind → Type 0
 HoldBatchBad options list held file line kind = ((file ≡ list) × HoldsBadList held list line kind) ⊎ HoldStop options list held (λ link. HoldFirstBad held link.files file line kind)
 
 -- the first link that can't be linked

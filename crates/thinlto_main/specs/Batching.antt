@@ -2,9 +2,9 @@
 -- each is put.
 use Rattle.std.specs.Prelude.{◌≡◌, ◌≤◌, ◌^◌, ◌⊎◌, ℕ, List, [], ◌∷◌, ◌++◌, length, Option, Some, None, Ok}
 use Rattle.std.specs.List.{AllZip}
-use Rattle.lto_fault.specs.declared.kind.Kind.{Kind}
+use Rattle.lto_fault.specs.declared.kind.RefusalKind.{RefusalKind}
 use Rattle.ir_tree.specs.declared.fault_kind.FaultKind.TheVariants.{Limit}
-use Rattle.lto_fault.specs.declared.kind.Kind.TheVariants.{BadLine, Unread}
+use Rattle.lto_fault.specs.declared.kind.RefusalKind.TheVariants.{BadLine, Unread}
 use Rattle.lto_fault.specs.declared.refusal.Refusal.{Refusal}
 use Rattle.lto_outside.specs.Calls.{Call, DidNoPut, Fetched}
 use Rattle.lto_outside.specs.Cause.{Rose}
@@ -28,12 +28,12 @@ pub record HasListed (list : List ℕ) (links : List ListedLink) (did : List Cal
   pub calls : did (Fetched list (Ok bytes) ∷ [])
 
 -- too many bytes, which is told of line 0, or the number of the first line that is no link
-abbrev pub IsBadList : Option (List ℕ) → ℕ → Kind → Type 0
+abbrev pub IsBadList : Option (List ℕ) → ℕ → RefusalKind → Type 0
 IsBadList None line kind = (line ≡ 0) × (kind ≡ Unread Limit)
 IsBadList (Some bytes) line kind = (length bytes ≤ 2 ^ 24) × FirstBadLine bytes line × (kind ≡ BadLine)
 
 -- it alone was fetched, and is bad
-pub record ListIsBad (list : List ℕ) (files : FilesSeen) (file : List ℕ) (line : ℕ) (kind : Kind) : Type 0 where
+pub record ListIsBad (list : List ℕ) (files : FilesSeen) (file : List ℕ) (line : ℕ) (kind : RefusalKind) : Type 0 where
   pub named : file ≡ list
   pub given : Option (List ℕ)
   pub calls : files.did (fetch_call list given ∷ [])
@@ -79,7 +79,7 @@ pub record LinkStops (options : LinkOptions) (list : List ℕ) (files : FilesSee
   pub first : FirstLink options P links given
 
 -- one of its files isn't read, and is the first of them
-abbrev pub LinkCannotRead : LinkOptions → List ℕ → FilesSeen → List ℕ → ℕ → Kind → Type 0
+abbrev pub LinkCannotRead : LinkOptions → List ℕ → FilesSeen → List ℕ → ℕ → RefusalKind → Type 0
 LinkCannotRead options list files file line kind = LinkStops options list files (λ link given. FirstBad link.files given file line kind)
 
 -- or all are read, and can't be linked

@@ -4,9 +4,9 @@ use Rattle.std.specs.List.{AllZip}
 use Rattle.ir_tree.specs.declared.module.Module.{Module}
 use Rattle.lto_outside.specs.Seen.{FilesSeen}
 use Rattle.lto_outside.specs.Store.{Store}
-use Rattle.lto_fault.specs.declared.kind.Kind.{Kind}
+use Rattle.lto_fault.specs.declared.kind.RefusalKind.{RefusalKind}
 use Rattle.ir_tree.specs.declared.fault_kind.FaultKind.TheVariants.{Limit}
-use Rattle.lto_fault.specs.declared.kind.Kind.TheVariants.{Unread}
+use Rattle.lto_fault.specs.declared.kind.RefusalKind.TheVariants.{Unread}
 use Rattle.lto_fault.specs.declared.refusal.Refusal.{Refusal}
 use Rattle.link_one.specs.Accepted.{Accepts, Refuses}
 use Rattle.link_one.specs.Linking.{IsLinkOf, IsOnlyLinkOf}
@@ -25,16 +25,16 @@ pub record HoldsModule (held : Store) (name : List ℕ) (m : Module) : Type 0 wh
   pub accepted : Accepts bytes m
 
 -- bytes past 16 MiB, which is told of line 0, or such as are read as no sound module within the limits
-abbrev pub AreBad : List ℕ → ℕ → Kind → Type 0
+abbrev pub AreBad : List ℕ → ℕ → RefusalKind → Type 0
 AreBad bytes line kind = ((2 ^ 24 < length bytes) × (line ≡ 0) × (kind ≡ Unread Limit)) ⊎ ((length bytes ≤ 2 ^ 24) × Refuses bytes line kind)
 
-pub record HoldsBad (held : Store) (name : List ℕ) (line : ℕ) (kind : Kind) : Type 0 where
+pub record HoldsBad (held : Store) (name : List ℕ) (line : ℕ) (kind : RefusalKind) : Type 0 where
   pub bytes : List ℕ
   pub here : held name ≡ Some bytes
   pub fault : AreBad bytes line kind
 
 -- of these files the first that holds no module, and why
-abbrev pub HoldFirstBad : Store → List (List ℕ) → List ℕ → ℕ → Kind → Type 0
+abbrev pub HoldFirstBad : Store → List (List ℕ) → List ℕ → ℕ → RefusalKind → Type 0
 HoldFirstBad held [] file line kind = ⊥
 HoldFirstBad held (name ∷ names) file line kind =
     ((file ≡ name) × HoldsBad held name line kind) ⊎ (((m : Module) × HoldsModule held name m) × HoldFirstBad held names file line kind)

@@ -2,9 +2,9 @@
 use Rattle.std.specs.Prelude.{◌≡◌, ◌⊎◌, ◌≤◌, ◌^◌, ℕ, List, [], ◌∷◌, length, Option, Some, None}
 use Rattle.std.specs.List.{AllZip}
 use Rattle.ir_tree.specs.declared.module.Module.{Module}
-use Rattle.lto_fault.specs.declared.kind.Kind.{Kind}
+use Rattle.lto_fault.specs.declared.kind.RefusalKind.{RefusalKind}
 use Rattle.ir_tree.specs.declared.fault_kind.FaultKind.TheVariants.{Limit}
-use Rattle.lto_fault.specs.declared.kind.Kind.TheVariants.{Unread}
+use Rattle.lto_fault.specs.declared.kind.RefusalKind.TheVariants.{Unread}
 use Rattle.lto_fault.specs.declared.refusal.Refusal.{Refusal}
 use Rattle.lto_fault.specs.declared.refusal.Refusal.TheVariants.{NoMemory, ReadFault}
 use Rattle.ir_tree.specs.declared.failure.Failure.{Failure}
@@ -25,7 +25,7 @@ IsRead None m = ⊥
 IsRead (Some bytes) m = (length bytes ≤ 2 ^ 24) × Accepts bytes m
 
 -- too many, which is told of line 0; or they are read as no sound module within the limits, and this is their first fault
-abbrev pub IsBad : Option (List ℕ) → ℕ → Kind → Type 0
+abbrev pub IsBad : Option (List ℕ) → ℕ → RefusalKind → Type 0
 IsBad None line kind = (line ≡ 0) × (kind ≡ Unread Limit)
 IsBad (Some bytes) line kind = (length bytes ≤ 2 ^ 24) × Refuses bytes line kind
 
@@ -37,7 +37,7 @@ bytes_of (Some bytes) = bytes
 -- ---- all files
 
 -- of these files the first that isn't read, and why
-abbrev pub FirstBad : List (List ℕ) → List (Option (List ℕ)) → List ℕ → ℕ → Kind → Type 0
+abbrev pub FirstBad : List (List ℕ) → List (Option (List ℕ)) → List ℕ → ℕ → RefusalKind → Type 0
 FirstBad [] given file line kind = ⊥
 FirstBad (name ∷ names) [] file line kind = ⊥
 FirstBad (name ∷ names) (bytes ∷ given) file line kind =
@@ -62,7 +62,7 @@ pub record CannotFetch (names : List (List ℕ)) (files : FilesSeen) (name : Lis
   pub rose : Rose files.faults files.faults_now
 
 -- all were fetched, and one isn't read
-pub record CannotRead (names : List (List ℕ)) (files : FilesSeen) (file : List ℕ) (line : ℕ) (kind : Kind) : Type 0 where
+pub record CannotRead (names : List (List ℕ)) (files : FilesSeen) (file : List ℕ) (line : ℕ) (kind : RefusalKind) : Type 0 where
   pub given : List (Option (List ℕ))
   pub fetched : AreFetched names given files.did
   pub first : FirstBad names given file line kind

@@ -8,7 +8,7 @@ use Rattle.ir_meaning.specs.declared.value.Value.{Value}
 use Rattle.lto_outside.specs.Cause.{Rose}
 use Rattle.lto_outside.specs.Seen.{FilesSeen}
 use Rattle.lto_outside.specs.Store.{Store, HasPut, HasPart, Stays}
-use Rattle.lto_fault.specs.declared.kind.Kind.{Kind}
+use Rattle.lto_fault.specs.declared.kind.RefusalKind.{RefusalKind}
 use Rattle.lto_fault.specs.declared.refusal.Refusal.{Refusal}
 use Rattle.lto_words.specs.declared.list.Decimal.{Decimal}
 use Rattle.lto_words.specs.declared.request.Command.{Command}
@@ -143,10 +143,10 @@ CanDo (Run root args steps names) s i = CanReturn root args steps names s i
 CanDo (Gen seed modules jobs) s i = ⊥
 
 -- nothing but a file is in the way, the first that holds no module
-abbrev pub FileIsBad : List (List ℕ) → FilesSeen → List ℕ → ℕ → Kind → Type 0
+abbrev pub FileIsBad : List (List ℕ) → FilesSeen → List ℕ → ℕ → RefusalKind → Type 0
 FileIsBad names files file line kind = IsTold files.held (λ held. HoldFirstBad held names file line kind) × ¬ (Rose files.faults files.faults_now)
 
-abbrev pub MustRefuse : Command → Seen → List ℕ → ℕ → Kind → Type 0
+abbrev pub MustRefuse : Command → Seen → List ℕ → ℕ → RefusalKind → Type 0
 MustRefuse (Link options out names) s = FileIsBad names s.files
 MustRefuse (Index exports limit names) s = FileIsBad names s.files
 MustRefuse (Batch options list) s = λ file line kind. IsTold s.files.held (λ held. HoldBatchBad options list held file line kind) × ¬ (Rose s.files.faults s.files.faults_now)

@@ -8,7 +8,7 @@ ghost use Rattle.cache_slot.specs.Directory.{dir_of};
 ghost use Rattle.cache_slot.specs.Places.{IsAt};
 ghost use Rattle.lto_words.specs.Links.{GivenFor, PutFailed, puts};
 ghost use Rattle.lto_words.specs.Listing.{FirstBadLine, IsList};
-ghost use Rattle.lto_fault.specs.declared.kind.Kind.TheVariants.{BadLine};
+ghost use Rattle.lto_fault.specs.declared.kind.RefusalKind.TheVariants.{BadLine};
 ghost use Rattle.lto_fault.specs.declared.refusal.Refusal.TheVariants.{WriteFault};
 ghost use Rattle.lto_outside.specs.Cause.{Rose};
 ghost use Rattle.lto_outside.specs.Honest.{IsHonest};
@@ -26,7 +26,7 @@ use crate::link::made;
 use crate::modules::{refused, unfetched};
 use cache_slot::{CachePass, Setting, SharedCache};
 use ir_tree::{FaultKind, Rows, Text};
-use lto_fault::{Kind, Refusal};
+use lto_fault::{Refusal, RefusalKind};
 use lto_outside::{CacheDisk, Files, Gate};
 use lto_words::{
     FileName, LinkOptions, ListError, ListedLink, fetch_links, fetch_one, links, put_all,
@@ -43,7 +43,7 @@ fn listed(alloc: Global, list: &FileName, bytes: &[u8]) -> Result<Rows<ListedLin
 {
     match links(alloc, bytes) {
         Ok(links) => Ok(links),
-        Err(ListError::Fault(bad)) => Err(refused(alloc, list, bad.line, Kind::BadLine)),
+        Err(ListError::Fault(bad)) => Err(refused(alloc, list, bad.line, RefusalKind::BadLine)),
         Err(ListError::NoMemory) => Err(Refusal::NoMemory),
     }
 }
@@ -60,7 +60,7 @@ fn links_of<F: Files>(
 {
     match fetch_one(alloc, files, list) {
         Ok(Some(bytes)) => listed(alloc, list, bytes.as_slice()),
-        Ok(None) => Err(refused(alloc, list, 0, Kind::Unread(FaultKind::Limit))),
+        Ok(None) => Err(refused(alloc, list, 0, RefusalKind::Unread(FaultKind::Limit))),
         Err(error) => Err(unfetched(error)),
     }
 }

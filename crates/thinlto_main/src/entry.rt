@@ -1,7 +1,7 @@
 //! The one call of the program.
 ghost use Rattle.std.specs.Prelude.{ℕ, List, ◌↔◌, ◌≡◌, ◌≤◌, ◌⊎◌, IfErr, OnOk, map, string_bytes};
 ghost use Rattle.lto_fault.specs.Texts.{refusal_text};
-ghost use Rattle.lto_fault.specs.declared.kind.Kind.{Kind};
+ghost use Rattle.lto_fault.specs.declared.kind.RefusalKind.{RefusalKind};
 ghost use Rattle.lto_fault.specs.declared.refusal.Refusal.{Refusal};
 ghost use Rattle.lto_fault.specs.Pushing.{Hears};
 ghost use Rattle.cache_slot.specs.Decoded.{decoded};
@@ -100,7 +100,7 @@ pub fn top<
 
     // Where nothing is in the way it is done, and where one thing alone is, the answer tells it, unless memory runs out.
     ensures complete { Asked (map string_bytes words.now) (λ c. CanDo c (seen F.did F.held F.faults O.sent O.faults files.old files.new out.old out.new) (rest_seen I.left I.faults (IsHonest decoded D.fits (D.held disk)) input.old input.new)) → Succeeds result.status }
-    ensures complete_refusal { (file : List ℕ) (line : ℕ) (kind : Kind) → Asked (map string_bytes words.now) (λ c. MustRefuse c (seen F.did F.held F.faults O.sent O.faults files.old files.new out.old out.new) file line kind) → IsRefusal result.status file line kind }
+    ensures complete_refusal { (file : List ℕ) (line : ℕ) (kind : RefusalKind) → Asked (map string_bytes words.now) (λ c. MustRefuse c (seen F.did F.held F.faults O.sent O.faults files.old files.new out.old out.new) file line kind) → IsRefusal result.status file line kind }
     ensures complete_unlinked { (why : Refusal) → Asked (map string_bytes words.now) (λ c. MustNotLink c (seen F.did F.held F.faults O.sent O.faults files.old files.new out.old out.new) why) → IsUnlinked result.status why }
     ensures complete_unfit { (name : List ℕ) → Asked (map string_bytes words.now) (λ c. MustNotBegin c (seen F.did F.held F.faults O.sent O.faults files.old files.new out.old out.new) name) → IsUnfitted result.status name }
     ensures complete_unreturned { (why : Refusal) → Asked (map string_bytes words.now) (λ c. MustNotReturn c (seen F.did F.held F.faults O.sent O.faults files.old files.new out.old out.new) (rest_seen I.left I.faults (IsHonest decoded D.fits (D.held disk)) input.old input.new) why) → IsUnreturned result.status why }

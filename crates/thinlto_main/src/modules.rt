@@ -10,7 +10,7 @@ ghost use Rattle.thinlto_main.specs.Modules.{AreRead, FirstBad, IsBad, IsRead, b
 
 use ir_tree::{FaultKind, Rows, Text, Verified};
 use link_one::{LinkError, accepted};
-use lto_fault::{Kind, Refusal};
+use lto_fault::{Refusal, RefusalKind};
 use lto_outside::Files;
 use lto_words::{FetchError, FileName, fetch_all};
 use promote_rename::suffix;
@@ -28,7 +28,7 @@ pub(crate) fn texts(alloc: Global, names: &[FileName]) -> Result<Rows<Text>, All
 }
 
 /// That this file is refused.
-pub(crate) fn refused(alloc: Global, name: &FileName, line: u64, kind: Kind) -> Refusal
+pub(crate) fn refused(alloc: Global, name: &FileName, line: u64, kind: RefusalKind) -> Refusal
     ensures { Because (record never { refused = λ file at why. (file ≡ name.now) × (at ≡ line) × (why ≡ kind); memory = Unit {0} }) result }
 {
     match Text::copied(alloc, name.as_str().as_bytes()) {
@@ -44,7 +44,7 @@ fn read_one(alloc: Global, name: &FileName, bytes: &Option<Text>) -> Result<Veri
     ensures because { IfErr result (Because (record never { refused = λ file line kind. (file ≡ name.now) × IsBad bytes.now line kind; memory = Unit {0} })) }
 {
     match bytes {
-        None => Err(refused(alloc, name, 0, Kind::Unread(FaultKind::Limit))),
+        None => Err(refused(alloc, name, 0, RefusalKind::Unread(FaultKind::Limit))),
         Some(bytes) => match accepted(alloc, bytes.as_slice()) {
             Ok(module) => Ok(module),
             Err(LinkError::NoMemory) => Err(Refusal::NoMemory),

@@ -17,21 +17,21 @@ use Rattle.ir_meaning.specs.Address.{address_of}
 use Rattle.ir_meaning.specs.Bytes.{reg_size, number_bytes, fragments, pointer_bytes, bits_stored, pointer_stored, stored_bytes}
 use Rattle.ir_meaning.specs.Execute.{regs_eq, result_eq, host_params, Task, ToBinary, ToCompare, ToCast, ToSelect, ToFreeze, ToReserve, ToLoad, ToStore, ToAddress, ToCall, ToPoison, evaluate, Effect, Went, Asked, Broke, gives, stores, compares, gets_char, puts_bits, puts_char, calls_host, calls_kind, calls_value, execute}
 use Rattle.ir_meaning.specs.Fault.{Fault, Undefined}
-use Rattle.ir_meaning.specs.Frame.{Locals, Host, PutChar, GetChar, Kind, AFunction, AVariable, AHost, Missing, Signature, look_up, value_of}
+use Rattle.ir_meaning.specs.Frame.{Locals, Host, PutChar, GetChar, SymbolKind, AFunction, AVariable, AHost, Missing, Signature, look_up, value_of}
 use Rattle.ir_meaning.specs.Memory.{MemoryBlock, Memory, fresh}
 use Rattle.ir_meaning.specs.Operate.{Answer, Is, Never, Unwritten, bits_of, binary, cast, selected, frozen}
 use Rattle.ir_meaning.specs.Relate.{Pairing, Point, Related, Kept, SameBase, SameBytes, SameMarks, SameBlock, Agrees, AllAgree, ValuesAgree}
 use Rattle.ir_meaning.specs.declared.event.Event.{Event}
 use Rattle.ir_meaning.specs.declared.event.Event.TheVariants.{ReadByte, ReadEnd, Wrote}
-use Rattle.ir_meaning.specs.declared.fault.Cause.{Cause}
-use Rattle.ir_meaning.specs.declared.fault.Cause.TheVariants.{CallOfAnotherType}
+use Rattle.ir_tree.specs.declared.cause.Cause.{Cause}
+use Rattle.ir_tree.specs.declared.cause.Cause.TheVariants.{CallOfAnotherType}
 use Rattle.ir_meaning.specs.declared.value.Base.{Base}
 use Rattle.ir_meaning.specs.declared.value.Base.TheVariants.{Nowhere, Code, Cell}
 use Rattle.ir_meaning.specs.declared.value.Byte.{Byte}
 use Rattle.ir_meaning.specs.declared.value.Byte.TheVariants.{Spoilt}
 use Rattle.ir_meaning.specs.declared.value.Value.{Value}
 use Rattle.ir_meaning.specs.declared.value.Value.TheVariants.{Number, Pointer, Poison}
-pub use Rattle.ir_meaning.specs.Needed.{Reads}
+pub use Rattle.ir_meaning.specs.Needed.{UsesKept}
 use Rattle.ir_meaning.proofs.Alike.Keeping.{kept_refl, updated, update_kept, pairing_more, more, more_new, more_kept, fresh_same, SlotsPaired}
 use Rattle.ir_meaning.proofs.Alike.Pointers.{MaybeSame, here_same, pointers_agree, address_agrees, load_agrees, reaches_more, take_same, drop_same}
 use Rattle.ir_meaning.proofs.Alike.Values.{LocalsAgree, AnswerAgrees, Names, NoneOrSame, Valuation, EachAgrees, bits_agree, value_of_agrees, values_of_agree, each_agrees, indices_agree, binary_agrees, compared_agrees, cast_agrees, selected_agrees, frozen_agrees}
@@ -119,7 +119,7 @@ evaluate_agrees w n a b (Call result c args) h = (refl, refl, values_of_agree w 
 evaluate_agrees w n a b (StrayPhi reg es) h = tt
 
 pub reads_agree : (sig : Signature) (w : Pairing) (n : ℕ) → Names sig w n → (keeps : ℕ → Bool) (ls rs : Locals) →
-    LocalsAgree keeps w n ls rs → (i : Instr) → Reads keeps i → OperandsAgree w n (value_of sig ls) (value_of sig rs) i
+    LocalsAgree keeps w n ls rs → (i : Instr) → UsesKept keeps i → OperandsAgree w n (value_of sig ls) (value_of sig rs) i
 reads_agree sig w n c keeps ls rs h (Binary op f k l r) x =
     (value_of_agrees sig w n c keeps ls rs h l x.0, value_of_agrees sig w n c keeps ls rs h r x.1)
 reads_agree sig w n c keeps ls rs h (Icmp p reg l r) x =
@@ -375,7 +375,7 @@ host_alike : (p : Point) → Related p → (host : Host) (input : List ℕ) (pla
 host_alike p rel PutChar input place vs us h = puts_alike p rel place vs us h
 host_alike p rel GetChar input place vs us h = gets_char_alike p rel place (slice_get input place)
 
-kind_alike : (p : Point) → Related p → (kind : Kind) (s : Symbol) (input : List ℕ) (place : ℕ) (result : Option Reg)
+kind_alike : (p : Point) → Related p → (kind : SymbolKind) (s : Symbol) (input : List ℕ) (place : ℕ) (result : Option Reg)
     (regs : List Reg) (vs us : List Value) → AllAgree p.pairing (length p.left) vs us →
     EffectsAlike p (calls_kind kind s input p.left place result regs vs) (calls_kind kind s input p.right place result regs us)
 kind_alike p rel (AFunction params result') s input place result regs vs us h =

@@ -24,7 +24,7 @@ use Rattle.ir_meaning.specs.declared.value.Value.{Value}
 use Rattle.ir_meaning.specs.Formed.{IsFormed}
 use Rattle.ir_meaning.specs.Laws.{Reflexivity}
 use Rattle.ir_meaning.proofs.Alike.Answering.{near_by, alone, answered_effects, answered_return, answered_go, answered_fails, breaks_at_once, bind_agrees, EdgesKept, PhisKept, phis_agree, EndReads, ExitsAgree, exit_agrees, names_of, act_at_line, act_at_end}
-use Rattle.ir_meaning.proofs.Alike.Effects.{answer_later, locals_later, slots_later, evaluate_agrees, Reads, reads_agree, SlotAgrees, execute_alike}
+use Rattle.ir_meaning.proofs.Alike.Effects.{answer_later, locals_later, slots_later, evaluate_agrees, UsesKept, reads_agree, SlotAgrees, execute_alike}
 use Rattle.ir_meaning.proofs.Alike.Keeping.{kept_refl, kept_trans, kept_fixes, fixes_right, more, SlotsPaired, kill_kept}
 use Rattle.ir_meaning.proofs.Alike.Values.{LocalsAgree, IsKept, AllKept, if_agrees}
 
@@ -42,7 +42,7 @@ each_kept : (as' : List Argument) → AllKept every as'
 each_kept [] = tt
 each_kept (a ∷ more) = (kept_all a.operand, each_kept more)
 
-pub reads_all : (i : Instr) → Reads every i
+pub reads_all : (i : Instr) → UsesKept every i
 reads_all (Binary op f k l r) = (kept_all l, kept_all r)
 reads_all (Icmp p reg l r) = (kept_all l, kept_all r)
 reads_all (Cast op from o to) = kept_all o

@@ -11,12 +11,12 @@ use Rattle.ir_tree.specs.declared.operand.Operand.TheVariants.{Local, Number as 
 use Rattle.ir_tree.specs.declared.operand.Reg.{Reg}
 use Rattle.ir_tree.specs.declared.operand.Reg.TheVariants.{Int, Ptr}
 use Rattle.ir_tree.specs.declared.operand.Symbol.{Symbol}
-use Rattle.ir_meaning.specs.Frame.{Locals, Kind, AFunction, AVariable, AHost, Missing, Signature, look_up, named, value_of, values_of, signed_of, index_of, cons_index, indices_of}
+use Rattle.ir_meaning.specs.Frame.{Locals, SymbolKind, AFunction, AVariable, AHost, Missing, Signature, look_up, named, value_of, values_of, signed_of, index_of, cons_index, indices_of}
 use Rattle.ir_meaning.specs.Operate.{Answer, Is, Never, Unwritten, number_or_poison, bits_of, plain_bits, division_bits, binary, bit, compared_bits, compared, cast_bits, cast, selected_bits, selected, frozen_bits, frozen}
 use Rattle.ir_meaning.specs.Pointers.{chosen}
 use Rattle.ir_meaning.specs.Relate.{Pairing, Agrees, AllAgree}
 use Rattle.ir_meaning.specs.Arithmetic.{arithmetic, is_division, may_break, breaks, division_cause}
-use Rattle.ir_meaning.specs.declared.fault.Cause.{Cause}
+use Rattle.ir_tree.specs.declared.cause.Cause.{Cause}
 use Rattle.ir_meaning.specs.declared.value.Value.{Value}
 use Rattle.ir_meaning.specs.declared.value.Value.TheVariants.{Number, Pointer, Poison}
 pub use Rattle.ir_meaning.specs.Needed.{IsKept, AllKept}
@@ -60,7 +60,7 @@ if_defined w n false true a b why why' h x = absurd (cc (h refl))
 
 -- ---- operands
 
-named_agrees : (sig : Signature) (w : Pairing) (n : ℕ) → Names sig w n → (s : Symbol) (o : ℕ) (kind : Kind) →
+named_agrees : (sig : Signature) (w : Pairing) (n : ℕ) → Names sig w n → (s : Symbol) (o : ℕ) (kind : SymbolKind) →
     sig.kind s ≡ kind → Agrees w n (named kind s o) (named kind s o)
 named_agrees sig w n c s o (AFunction params result) e = (refl, refl)
 named_agrees sig w n c s o (AVariable k) e = let lt = c.formed s k e in ((omega (arith, c.few), c.stay k lt), refl)

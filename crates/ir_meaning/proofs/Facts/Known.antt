@@ -28,7 +28,7 @@ use Rattle.ir_meaning.specs.Facts.{Facts, without, with_fact, behind_local, behi
 use Rattle.ir_meaning.specs.Formed.{IsFormed}
 use Rattle.ir_meaning.specs.Laws.{ReplacedBetter}
 use Rattle.ir_meaning.proofs.Alike.Answering.{by_value_agrees, near_by, answered_return, answered_fails, bind_agrees, EndReads, ExitsAgree, names_of, act_at_line, act_at_end}
-use Rattle.ir_meaning.proofs.Alike.Effects.{answer_later, locals_later, slots_later, TasksAgree, OperandsAgree, evaluate_agrees, Reads, SlotAgrees, EffectsAlike, execute_alike}
+use Rattle.ir_meaning.proofs.Alike.Effects.{answer_later, locals_later, slots_later, TasksAgree, OperandsAgree, evaluate_agrees, UsesKept, SlotAgrees, EffectsAlike, execute_alike}
 use Rattle.ir_meaning.proofs.Alike.Itself.{slots_more}
 use Rattle.ir_meaning.proofs.Alike.Keeping.{kept_refl, kept_trans, kept_fixes, more, SlotsPaired, kill_kept}
 use Rattle.ir_meaning.proofs.Alike.Values.{LocalsAgree, IsKept, AllKept, EachAgrees, Names, if_agrees, value_of_agrees}
@@ -53,7 +53,7 @@ each_values w n keeps g a b h [] k = tt
 each_values w n keeps g a b h (x ∷ more) k = (h x.operand k.0, each_values w n keeps g a b h more k.1)
 
 operands_read : (w : Pairing) (n : ℕ) (keeps : ℕ → Bool) (g : Operand → Operand) (a b : Operand → Value) →
-    ((o : Operand) → IsKept keeps (g o) → Agrees w n (a o) (b o)) → (i : Instr) → Reads keeps (with_operands g i) → OperandsAgree w n a b i
+    ((o : Operand) → IsKept keeps (g o) → Agrees w n (a o) (b o)) → (i : Instr) → UsesKept keeps (with_operands g i) → OperandsAgree w n a b i
 operands_read w n keeps g a b h (Binary op fl k l r) x = (h l x.0, h r x.1)
 operands_read w n keeps g a b h (Icmp p reg l r) x = (h l x.0, h r x.1)
 operands_read w n keeps g a b h (Cast op from o to) x = h o x

@@ -18,18 +18,18 @@ use Rattle.ir_meaning.specs.Operate.{bits_of}
 use Rattle.ir_meaning.specs.Act.{Act, Goes, Calls, Gives, with_slot, apply, incoming_value, phis_bound, find_block, enters_block, jumps, case_target, side, Exit, Leaves, Leads', Stuck, by_bits, by_value, answer_of, exit_of, exits, act, params_bound, enter_at, enter, resume}
 use Rattle.ir_meaning.specs.Execute.{Task, evaluate, Effect, Asked, Broke, execute, calls_value, calls_kind}
 use Rattle.ir_meaning.specs.Fault.{Undefined}
-use Rattle.ir_meaning.specs.Frame.{Locals, Frame, Signature, look_up, bind, named, value_of, regs_of, values_of, Kind}
+use Rattle.ir_meaning.specs.Frame.{Locals, Frame, Signature, look_up, bind, named, value_of, regs_of, values_of, SymbolKind}
 use Rattle.ir_meaning.specs.Memory.{MemoryBlock, Memory, dead, end_life, kill}
 use Rattle.ir_meaning.specs.Near.{Setting, Against, IsAnswered}
 use Rattle.ir_meaning.specs.Program.{variables, State, On, place_of, Took, go_in, advance, step}
 use Rattle.ir_meaning.specs.Relate.{Pairing, Point, Fixes, Related, Kept, Agrees, AllAgree, AnswersAgree, ValuesAgree, ArgumentsAgree}
-use Rattle.ir_meaning.specs.declared.fault.Cause.TheVariants.{UnreachableReached, CallOfAnotherType}
+use Rattle.ir_tree.specs.declared.cause.Cause.TheVariants.{UnreachableReached, CallOfAnotherType}
 use Rattle.ir_meaning.specs.declared.value.Value.{Value}
 use Rattle.ir_meaning.specs.Formed.{IsFormed}
 use Rattle.ir_meaning.specs.Inline.{Site, moved, local_moved, line_moved, lines_moved, phis_moved, end_moved, blocks_moved, return_edges, join_phis, renamed, phis_renamed, block_renamed, blocks_renamed, entry_number, first_part, second_part, inlined_blocks, inlined, below, LinesBelow, BlockBelow, BlocksBelow, IsNoParameter, LinesSparing, ReturnsFor, BlockSparing, CanInline}
 use Rattle.ir_meaning.specs.Laws.{InlinedBetter}
 use Rattle.ir_meaning.proofs.Alike.Answering.{near_by, answered_return, answered_fails, bind_agrees, EndReads, ExitsAgree, exit_agrees, names_of, act_at_line, act_at_end}
-use Rattle.ir_meaning.proofs.Alike.Effects.{value_later, locals_later, TasksAgree, evaluate_agrees, Reads, reads_agree, SlotAgrees, execute_alike}
+use Rattle.ir_meaning.proofs.Alike.Effects.{value_later, locals_later, TasksAgree, evaluate_agrees, UsesKept, reads_agree, SlotAgrees, execute_alike}
 use Rattle.ir_meaning.proofs.Alike.Keeping.{kept_refl, kept_trans, kept_fixes, fixes_right}
 use Rattle.ir_meaning.proofs.Alike.Values.{LocalsAgree, AllKept, Names, if_agrees}
 use Rattle.ir_meaning.proofs.Inlining.Slots.{SlotsOver, over_later, over_killed, callee_killed}
@@ -39,12 +39,12 @@ use Rattle.ir_meaning.proofs.Alike.Stacks.{stack, stack_breaks, one_answer, stac
 
 -- ---- the invariant
 
-split_lines : (n : ℕ) (xs : List Line) (y : Line) (ys : List Line) → LinesBelow n (xs ++ y ∷ ys) → Reads (below n) y.instr × LinesBelow n ys
+split_lines : (n : ℕ) (xs : List Line) (y : Line) (ys : List Line) → LinesBelow n (xs ++ y ∷ ys) → UsesKept (below n) y.instr × LinesBelow n ys
 split_lines n [] y ys h = h
 split_lines n (x ∷ xs) y ys h = split_lines n xs y ys h.1
 
-call_args : (n : ℕ) (i : Instr) (result : Option Reg) (o : Operand) (args : List Argument) → i ≡ Call result o args → Reads (below n) i → AllKept (below n) args
-call_args n i result o args e h = (subst (λ (x : Instr). Reads (below n) x) e h).1
+call_args : (n : ℕ) (i : Instr) (result : Option Reg) (o : Operand) (args : List Argument) → i ≡ Call result o args → UsesKept (below n) i → AllKept (below n) args
+call_args n i result o args e h = (subst (λ (x : Instr). UsesKept (below n) x) e h).1
 
 abbrev Where : Site → Terminator → List Line → Terminator → ℕ → List Line → Terminator → ℕ → Type 0
 Where t ends ra ea na rb eb nb =
@@ -61,7 +61,7 @@ module _ (z : Setting) (one : 1 ≤ z.bound) (formed : IsFormed z.program) (f : 
   call_number : can.block.number ≡ t.block
   call_number = (found_below t.by f.blocks can.caller t.block can.block can.found).0
 
-  split : Reads (below t.by) t.call.instr × LinesBelow t.by t.after
+  split : UsesKept (below t.by) t.call.instr × LinesBelow t.by t.after
   split = split_lines t.by t.before t.call t.after (subst (λ (l : List Line). LinesBelow t.by l) can.lines call_block.lines)
 
   args_kept : AllKept (below t.by) t.arguments
@@ -351,8 +351,8 @@ module _ (z : Setting) (one : 1 ≤ z.bound) (formed : IsFormed z.program) (f : 
       let vs = values_of value t.arguments in
       let regs = regs_of t.arguments in
       ap (λ (i : Instr). execute sg z.input memory at choice (evaluate value i)) can.calls
-      ∙ ap (λ (k : Kind). calls_value sg z.input memory at t.result regs vs (named k t.callee 0)) can.kind
-      ∙ ap (λ (k : Kind). calls_kind k t.callee z.input memory at t.result regs vs) can.kind
+      ∙ ap (λ (k : SymbolKind). calls_value sg z.input memory at t.result regs vs (named k t.callee 0)) can.kind
+      ∙ ap (λ (k : SymbolKind). calls_kind k t.callee z.input memory at t.result regs vs) can.kind
       ∙ ap (λ (x : Bool). if x then Asked t.callee vs else Broke (Undefined CallOfAnotherType)) can.type_is
 
   entered : List Value → Frame

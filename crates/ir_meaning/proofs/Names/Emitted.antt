@@ -15,7 +15,7 @@ use Rattle.ir_tree.specs.declared.operand.Argument.{Argument}
 use Rattle.ir_tree.specs.declared.operand.Operand.{Operand}
 use Rattle.ir_tree.specs.declared.operand.Operand.TheVariants.{Local, Number as Constant, Null, Poison as PoisonOf, Symbol as Named}
 use Rattle.ir_tree.specs.declared.operand.Symbol.{Symbol}
-use Rattle.ir_meaning.specs.Frame.{Kind, AFunction, AVariable, AHost, Missing}
+use Rattle.ir_meaning.specs.Frame.{SymbolKind, AFunction, AVariable, AHost, Missing}
 use Rattle.ir_meaning.specs.Memory.{MemoryBlock}
 use Rattle.ir_meaning.specs.Program.{Program}
 use Rattle.ir_meaning.specs.Refine.{Naming}
@@ -268,7 +268,7 @@ emitted_kept t final live most q p r = record {
     counts : final.count ≡ t.count'
     counts = r.final_count ∙ sym r.count'
 
-    kind_back : (k : Kind) → ((n : ℕ) → k ≡ AVariable n → IsThere t n) → k ≡ kind_under t (kind_under final k)
+    kind_back : (k : SymbolKind) → ((n : ℕ) → k ≡ AVariable n → IsThere t n) → k ≡ kind_under t (kind_under final k)
     kind_back (AFunction params result) h = refl
     kind_back (AVariable n) h = ap (λ (x : ℕ). AVariable x) (sym (cell_back t final counts r.within r.variable_back n (h n refl)))
     kind_back (AHost host) h = refl

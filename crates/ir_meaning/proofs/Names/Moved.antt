@@ -23,7 +23,7 @@ use Rattle.ir_meaning.specs.Symbols.{base_eq}
 use Rattle.ir_tree.specs.Symbols.{symbol_eq}
 use Rattle.ir_tree.proofs.Symbols.{symbol_same, symbol_true}
 use Rattle.ir_meaning.specs.Arithmetic.{division_cause, arithmetic, is_division, may_break, breaks}
-use Rattle.ir_meaning.specs.declared.fault.Cause.{Cause}
+use Rattle.ir_tree.specs.declared.cause.Cause.{Cause}
 use Rattle.ir_meaning.specs.declared.value.Base.{Base}
 use Rattle.ir_meaning.specs.declared.value.Base.TheVariants.{Nowhere, Code, Cell}
 use Rattle.ir_meaning.specs.declared.value.Byte.{Byte}

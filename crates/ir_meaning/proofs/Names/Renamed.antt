@@ -24,16 +24,16 @@ use Rattle.ir_meaning.specs.Act.{Act, Goes, Calls, Gives, Breaks, with_slot, app
 use Rattle.ir_meaning.specs.Address.{address_of}
 use Rattle.ir_meaning.specs.Execute.{regs_eq, result_eq, host_params, Task, ToBinary, ToCompare, ToCast, ToSelect, ToFreeze, ToReserve, ToLoad, ToStore, ToAddress, ToCall, ToPoison, evaluate, Effect, Went, Asked, Broke, gives, stores, compares, gets_char, puts_bits, puts_char, calls_host, calls_kind, calls_value, execute}
 use Rattle.ir_meaning.specs.Fault.{Fault, Undefined, Uninit}
-use Rattle.ir_meaning.specs.Frame.{Locals, Frame, Host, PutChar, GetChar, Kind, AFunction, AVariable, AHost, Missing, Signature, look_up, bind, named, value_of, values_of, signed_of, index_of, cons_index, indices_of, regs_of}
+use Rattle.ir_meaning.specs.Frame.{Locals, Frame, Host, PutChar, GetChar, SymbolKind, AFunction, AVariable, AHost, Missing, Signature, look_up, bind, named, value_of, values_of, signed_of, index_of, cons_index, indices_of, regs_of}
 use Rattle.ir_meaning.specs.Memory.{Memory, fresh, kill}
 use Rattle.ir_meaning.specs.Operate.{Answer, Is, Never, Unwritten, binary, bits_of, cast, selected, frozen}
 use Rattle.ir_meaning.specs.Program.{Program, State, Next, On, Done, Broken, Failure, place_of, Took, back, go_in, advance, step}
 use Rattle.ir_meaning.specs.Refine.{Naming, SameCell, MayStandFor, AnswerMayStandFor, SameEnding, Matched, RefinesFrom}
 use Rattle.ir_meaning.specs.Run.{Ending, Running, Returned, Failed, Ran, run_on, run, start_of}
 use Rattle.ir_meaning.specs.declared.event.Event.{Event}
-use Rattle.ir_meaning.specs.declared.fault.Cause.{Cause}
+use Rattle.ir_tree.specs.declared.cause.Cause.{Cause}
 use Rattle.ir_meaning.specs.declared.fault.Place.{Place}
-use Rattle.ir_meaning.specs.declared.fault.Cause.TheVariants.{UnreachableReached, CallOfNoFunction, CallOfAnotherType, PoisonArgument}
+use Rattle.ir_tree.specs.declared.cause.Cause.TheVariants.{UnreachableReached, CallOfNoFunction, CallOfAnotherType, PoisonArgument}
 use Rattle.ir_meaning.specs.declared.value.Base.TheVariants.{Nowhere, Code, Cell}
 use Rattle.ir_meaning.specs.declared.value.Value.{Value}
 use Rattle.ir_meaning.specs.declared.value.Value.TheVariants.{Number, Pointer, Poison}
@@ -64,7 +64,7 @@ look_under t [] x = refl
 look_under t ((y, v) ∷ ls) x =
     ap (λ (u : Value). if y == x then value_under t v else u) (look_under t ls x) ∙ if_under t (y == x) v (look_up ls x)
 
-named_under : (t : Naming) (k : Kind) (s : Symbol) (o : ℕ) → named (kind_under t k) (t.symbol s) o ≡ value_under t (named k s o)
+named_under : (t : Naming) (k : SymbolKind) (s : Symbol) (o : ℕ) → named (kind_under t k) (t.symbol s) o ≡ value_under t (named k s o)
 named_under t (AFunction params result) s o = refl
 named_under t (AVariable number) s o = refl
 named_under t (AHost host) s o = refl
@@ -76,7 +76,7 @@ operand_same t sig sig' k ls (Local x) = look_under t ls x
 operand_same t sig sig' k ls (Constant w bits) = refl
 operand_same t sig sig' k ls Null = refl
 operand_same t sig sig' k ls (PoisonOf reg) = refl
-operand_same t sig sig' k ls (Named s o) = ap (λ (x : Kind). named x (t.symbol s) o) (k s) ∙ named_under t (sig.kind s) s o
+operand_same t sig sig' k ls (Named s o) = ap (λ (x : SymbolKind). named x (t.symbol s) o) (k s) ∙ named_under t (sig.kind s) s o
 
 -- ---- tasks
 
@@ -199,7 +199,7 @@ host_under t m m' h PutChar input place vs = puts_under t m m' h place vs
 host_under t m m' h GetChar input place vs = gets_under t m m' h place (slice_get input place)
 
 calls_under : (t : Naming) (m m' : Memory) → MemoryUnder t m m' →
-    (k : Kind) (s : Symbol) (input : List ℕ) (place : ℕ) (result : Option Reg) (regs : List Reg) (vs : List Value) →
+    (k : SymbolKind) (s : Symbol) (input : List ℕ) (place : ℕ) (result : Option Reg) (regs : List Reg) (vs : List Value) →
     EffectUnder t (calls_kind k s input m place result regs vs)
     (calls_kind (kind_under t k) (t.symbol s) input m' place result regs (map (value_under t) vs))
 calls_under t m m' h (AFunction params result') s input place result regs vs =
@@ -217,7 +217,7 @@ call_under : (t : Naming) (sig sig' : Signature) → KindsUnder t sig sig' → (
     EffectUnder t (calls_value sig input m place result regs vs c)
     (calls_value sig' input m' place result regs (map (value_under t) vs) (value_under t c))
 call_under t sig sig' k m m' h input place result regs vs (Pointer (Code s) zero) =
-    subst (λ (x : Kind). EffectUnder t (calls_kind (sig.kind s) s input m place result regs vs)
+    subst (λ (x : SymbolKind). EffectUnder t (calls_kind (sig.kind s) s input m place result regs vs)
     (calls_kind x (t.symbol s) input m' place result regs (map (value_under t) vs))) (sym (k s))
     (calls_under t m m' h (sig.kind s) s input place result regs vs)
 call_under t sig sig' k m m' h input place result regs vs (Pointer (Code s) (suc o)) = (Undefined CallOfNoFunction, refl)

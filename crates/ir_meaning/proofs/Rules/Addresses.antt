@@ -12,7 +12,7 @@ use Rattle.ir_tree.specs.declared.operand.Reg.{Reg}
 use Rattle.ir_tree.specs.declared.operand.Reg.TheVariants.{Int, Ptr}
 use Rattle.ir_tree.specs.declared.operand.Symbol.{Symbol}
 use Rattle.ir_meaning.specs.Address.{address_of, pointer_or_poison, new_offset, displacements, displacements_into, sum_from, are_all_zero, stays_within}
-use Rattle.ir_meaning.specs.Frame.{Locals, Signature, Kind, AFunction, AVariable, AHost, Missing, named, value_of, indices_of, index_of, cons_index, signed_of}
+use Rattle.ir_meaning.specs.Frame.{Locals, Signature, SymbolKind, AFunction, AVariable, AHost, Missing, named, value_of, indices_of, index_of, cons_index, signed_of}
 use Rattle.ir_meaning.specs.Memory.{Memory, object_size}
 use Rattle.ir_meaning.specs.Operate.{bits_of}
 use Rattle.lto_bits.specs.Word.{wrapped}
@@ -147,7 +147,7 @@ moved_if : (b : Bool) (x : Base) (n : ℕ) → Stands (Pointer x n) (pointer_or_
 moved_if true x n = inr refl
 moved_if false x n = inl refl
 
-symbol_stands : (m : Memory) (inbounds : Bool) (shape : Form) (kind : Kind) (s : Symbol) (o : ℕ) (is : List ℤ) → Stands (named kind s (wrapped 64 (sum_from (pos o) (displacements shape is)))) (address_of m inbounds shape (named kind s o) (Some is))
+symbol_stands : (m : Memory) (inbounds : Bool) (shape : Form) (kind : SymbolKind) (s : Symbol) (o : ℕ) (is : List ℤ) → Stands (named kind s (wrapped 64 (sum_from (pos o) (displacements shape is)))) (address_of m inbounds shape (named kind s o) (Some is))
 unfolding new_offset
 symbol_stands m inbounds shape (AFunction params result) s o is = moved_if _ (Code s) _
 symbol_stands m inbounds shape (AVariable k) s o is = moved_if _ (Cell k) _

@@ -10,7 +10,7 @@ use Rattle.ir_tree.specs.declared.operand.Reg.{Reg}
 use Rattle.ir_tree.specs.declared.operand.Reg.TheVariants.{Int, Ptr}
 use Rattle.ir_tree.specs.declared.operand.Symbol.{Symbol}
 use Rattle.ir_meaning.specs.Execute.{compares}
-use Rattle.ir_meaning.specs.Frame.{Locals, Signature, Kind, AFunction, AVariable, AHost, Missing, named, value_of}
+use Rattle.ir_meaning.specs.Frame.{Locals, Signature, SymbolKind, AFunction, AVariable, AHost, Missing, named, value_of}
 use Rattle.ir_meaning.specs.Memory.{Lives, Memory}
 use Rattle.ir_meaning.specs.Operate.{bits_of, bit, compared_bits}
 use Rattle.ir_meaning.specs.Pointers.{chosen, settled, settled_equal, settled_order, apart_equal, unequal_if, is_at, lives_with, negated, compared_pointers}
@@ -153,14 +153,14 @@ start_lives : (m : Memory) (k : ℕ) → Lives m k → unequal_if (is_at m k 0) 
 start_lives m k a = ap unequal_if (ap (lives_with (λ size. nat_le 0 size)) a.1 ∙ and_from a.0.live (nat_le 0 a.0.size) a.2 (le-leb 0 a.0.size (omega arith)))
 
 -- null is no symbol's address
-null_left : (sig : Signature) (ls : Locals) (m : Memory) (choice : ℕ) (kind : Kind) → ((number : ℕ) → kind ≡ AVariable number → Lives m number) →
+null_left : (sig : Signature) (ls : Locals) (m : Memory) (choice : ℕ) (kind : SymbolKind) → ((number : ℕ) → kind ≡ AVariable number → Lives m number) →
     (s : Symbol) (p : Predicate) (v : Operand) → equality p false ≡ Some v → Stands (value_of sig ls v) (compared_pointers m p (Pointer Nowhere 0) (named kind s 0) choice)
 null_left sig ls m choice (AFunction params result) live s p v e = settled_compared sig ls m choice Nowhere (Code s) 0 0 false refl p v e
 null_left sig ls m choice (AVariable k) live s p v e = settled_compared sig ls m choice Nowhere (Cell k) 0 0 false (start_lives m k (live k refl)) p v e
 null_left sig ls m choice (AHost host) live s p v e = settled_compared sig ls m choice Nowhere (Code s) 0 0 false refl p v e
 null_left sig ls m choice Missing live s p v e = inl refl
 
-null_right : (sig : Signature) (ls : Locals) (m : Memory) (choice : ℕ) (kind : Kind) → ((number : ℕ) → kind ≡ AVariable number → Lives m number) →
+null_right : (sig : Signature) (ls : Locals) (m : Memory) (choice : ℕ) (kind : SymbolKind) → ((number : ℕ) → kind ≡ AVariable number → Lives m number) →
     (s : Symbol) (p : Predicate) (v : Operand) → equality p false ≡ Some v → Stands (value_of sig ls v) (compared_pointers m p (named kind s 0) (Pointer Nowhere 0) choice)
 null_right sig ls m choice (AFunction params result) live s p v e = settled_compared sig ls m choice (Code s) Nowhere 0 0 false refl p v e
 null_right sig ls m choice (AVariable k) live s p v e = settled_compared sig ls m choice (Cell k) Nowhere 0 0 false (start_lives m k (live k refl)) p v e
@@ -173,7 +173,7 @@ offsets_settled m x i j = ap (λ (t : Bool). if t then Some (i == j) else apart_
 offsets_compared : (sig : Signature) (ls : Locals) (m : Memory) (choice : ℕ) (x : Base) (i j : ℕ) (p : Predicate) (v : Operand) → equality p (i == j) ≡ Some v → Stands (value_of sig ls v) (compared_pointers m p (Pointer x i) (Pointer x j) choice)
 offsets_compared sig ls m choice x i j p v e = settled_compared sig ls m choice x x i j (i == j) (offsets_settled m x i j) p v e
 
-symbol_compared : (sig : Signature) (ls : Locals) (m : Memory) (choice : ℕ) (kind : Kind) (s : Symbol) (i j : ℕ) (p : Predicate) (v : Operand) → equality p (i == j) ≡ Some v → Stands (value_of sig ls v) (compared_pointers m p (named kind s i) (named kind s j) choice)
+symbol_compared : (sig : Signature) (ls : Locals) (m : Memory) (choice : ℕ) (kind : SymbolKind) (s : Symbol) (i j : ℕ) (p : Predicate) (v : Operand) → equality p (i == j) ≡ Some v → Stands (value_of sig ls v) (compared_pointers m p (named kind s i) (named kind s j) choice)
 symbol_compared sig ls m choice (AFunction params result) s i j p v e = offsets_compared sig ls m choice (Code s) i j p v e
 symbol_compared sig ls m choice (AVariable k) s i j p v e = offsets_compared sig ls m choice (Cell k) i j p v e
 symbol_compared sig ls m choice (AHost host) s i j p v e = offsets_compared sig ls m choice (Code s) i j p v e

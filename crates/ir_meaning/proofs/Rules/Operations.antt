@@ -16,7 +16,7 @@ use Rattle.ir_meaning.specs.Operate.{Answer, Is, Never, Unwritten, number_or_poi
 use Rattle.ir_tree.specs.Symbols.{symbol_eq}
 use Rattle.ir_meaning.specs.Arithmetic.{arithmetic, breaks, may_break, division_cause, is_division}
 use Rattle.lto_bits.specs.Operation.{arithmetic as word_arithmetic}
-use Rattle.ir_meaning.specs.declared.fault.Cause.{Cause}
+use Rattle.ir_tree.specs.declared.cause.Cause.{Cause}
 use Rattle.ir_meaning.specs.declared.value.Value.{Value}
 use Rattle.ir_meaning.specs.declared.value.Value.TheVariants.{Number, Pointer, Poison}
 use Rattle.ir_meaning.specs.Facts.{Stands, GivesFor}

@@ -11,7 +11,7 @@ use Rattle.ir_meaning.specs.Program.{Program, variables, State, Next, On, Done, 
 use Rattle.ir_meaning.specs.Relate.{Point, Kept, ValuesAgree}
 use Rattle.ir_meaning.specs.declared.event.Event.{Event}
 use Rattle.ir_meaning.specs.declared.fault.Place.{Place}
-use Rattle.ir_meaning.specs.declared.fault.Cause.TheVariants.{CallOfNoFunction}
+use Rattle.ir_tree.specs.declared.cause.Cause.TheVariants.{CallOfNoFunction}
 use Rattle.ir_meaning.specs.declared.value.Value.{Value}
 use Rattle.ir_meaning.proofs.Runs.Steps.{above, raise, leads_raise, leads_trans, one_step}
 

@@ -10,7 +10,7 @@ use Rattle.ir_meaning.specs.Bytes.{reg_size, number_bytes, bits_stored, stored_b
 use Rattle.ir_meaning.specs.Memory.{MemoryBlock}
 use Rattle.ir_meaning.specs.Operate.{Answer, Is, Never, Unwritten, bits_of}
 use Rattle.ir_meaning.specs.Relate.{Pairing, Point, Kept, IsUnpaired, Agrees}
-use Rattle.ir_meaning.specs.declared.fault.Cause.{Cause}
+use Rattle.ir_tree.specs.declared.cause.Cause.{Cause}
 use Rattle.ir_meaning.specs.declared.value.Base.TheVariants.{Nowhere, Code, Cell}
 use Rattle.ir_meaning.specs.declared.value.Byte.{Byte}
 use Rattle.ir_meaning.specs.declared.value.Byte.TheVariants.{Unset, Spoilt}

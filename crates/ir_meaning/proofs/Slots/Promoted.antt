@@ -28,7 +28,7 @@ use Rattle.ir_meaning.specs.Near.{Setting, FailsWithin, IsAnswered}
 use Rattle.ir_meaning.specs.Operate.{Answer, Is, Unwritten}
 use Rattle.ir_meaning.specs.Program.{variables, State, On, Broken, place_of, advance, Leads}
 use Rattle.ir_meaning.specs.Relate.{Pairing, Point, Fixes, Related, Kept, IsUnpaired, Agrees, AllAgree, AnswersAgree, ArgumentsAgree}
-use Rattle.ir_meaning.specs.declared.fault.Cause.{Cause}
+use Rattle.ir_tree.specs.declared.cause.Cause.{Cause}
 use Rattle.ir_meaning.specs.declared.value.Base.TheVariants.{Nowhere, Code, Cell}
 use Rattle.ir_meaning.specs.declared.value.Byte.{Byte}
 use Rattle.ir_meaning.specs.declared.value.Byte.TheVariants.{Unset}

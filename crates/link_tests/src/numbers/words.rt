@@ -1,11 +1,11 @@
 //! Operations on numbers: vectors computed outside, at widths 1, 7, 8, 33 and 64.
-use lto_bits::{Answer, BinaryOp, Cause, Flags, Predicate, binary, compare, narrow, widen};
+use lto_bits::{Answer, BinaryOp, DivisionCause, Flags, Predicate, binary, compare, narrow, widen};
 
 const POISON: Answer = Answer::Poison;
 
-const BY_ZERO: Answer = Answer::Undefined(Cause::DivisionByZero);
+const BY_ZERO: Answer = Answer::Undefined(DivisionCause::DivisionByZero);
 
-const OVERFLOW: Answer = Answer::Undefined(Cause::DivisionOverflow);
+const OVERFLOW: Answer = Answer::Undefined(DivisionCause::DivisionOverflow);
 
 // An operation, a width, two operands, and what they give without flags and with all of them.
 type Row = (BinaryOp, u8, u64, u64, Answer, Answer);

@@ -1,6 +1,6 @@
 //! One caller: faults, broken and misplaced entries, a cache in memory, and a warm one.
 use crate::cache::script::{Answer, Disk, Key, Step, on_disk};
-use cache_slot::{Cause, Kept};
+use cache_slot::{Kept, SkipCause};
 use lto_outside::CacheDisk;
 use outside_memory::{Failure, Leaves, MemoryDisk};
 use std::alloc::{AllocError, Global};
@@ -10,7 +10,7 @@ const NEW: Answer = Answer::Kept(Kept::New);
 
 const AGAIN: Answer = Answer::Kept(Kept::Already);
 
-const SKIPPED: Answer = Answer::Kept(Kept::Skipped(Cause::Disk));
+const SKIPPED: Answer = Answer::Kept(Kept::Skipped(SkipCause::Disk));
 
 /// The name of the file of the key `a`.
 const A: &str = "86f7e437faa5a7fce15d1ddcb9eaeaea377667b8.tlto";

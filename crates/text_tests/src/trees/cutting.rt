@@ -1,5 +1,5 @@
 //! Texts and their tokens, worked out by hand from the table of tokens.
-use ir_lex::{Head, LexError, Token, lex, tokens};
+use ir_lex::{LexError, Token, TokenKind, lex, tokens};
 use std::alloc::{AllocError, Global};
 use std::fmt::Write;
 use std::string::String;
@@ -8,7 +8,7 @@ use std::string::String;
 fn put_token(token: &Token, out: &mut String) {
     let slice = str::from_utf8(token.text).unwrap_or("?");
     let end = if token.ends_line { "/" } else { "" };
-    let _written = write!(out, "{:?} {} {}{}, ", token.kind, slice, token.line, end);
+    let _written = write!(out, "{:?} {} {}{}, ", token.form, slice, token.line, end);
 }
 
 /// The tokens in one line, and then the end, or the bad token.
@@ -23,12 +23,12 @@ fn shown(alloc: Global, text: &str) -> Result<String, AllocError> {
     Ok(out)
 }
 
-/// Whether the tokens of a text are of these classes, in this order.
-fn has_classes(alloc: Global, text: &str, want: &[Head]) -> Result<bool, AllocError> {
+/// Whether the tokens of a text are of these kinds, in this order.
+fn has_classes(alloc: Global, text: &str, want: &[TokenKind]) -> Result<bool, AllocError> {
     let lexed = lex(alloc, text.as_bytes())?;
     let mut same = lexed.tokens.len() == want.len();
     for (token, class) in lexed.tokens.iter().zip(want) {
-        same = same && token.head.is(*class);
+        same = same && token.kind.is(*class);
     }
     Ok(same)
 }
@@ -125,116 +125,116 @@ const CUT: [(&str, &str); 37] = [
     ),
 ];
 
-/// Texts, and the classes of their tokens.
-const CLASSES: [(&str, &[Head]); 8] = [
+/// Texts, and the kinds of their tokens.
+const CLASSES: [(&str, &[TokenKind]); 8] = [
     (
         "i0 i1 i7 i8 i32 i64 i65 i128 i032 i00 i i8x",
         &[
-            Head::RefusedInteger,
-            Head::RegisterInteger,
-            Head::RegisterInteger,
-            Head::MemoryInteger,
-            Head::MemoryInteger,
-            Head::MemoryInteger,
-            Head::RefusedInteger,
-            Head::RefusedInteger,
-            Head::Word,
-            Head::Word,
-            Head::Word,
-            Head::Word,
+            TokenKind::RefusedInteger,
+            TokenKind::RegisterInteger,
+            TokenKind::RegisterInteger,
+            TokenKind::MemoryInteger,
+            TokenKind::MemoryInteger,
+            TokenKind::MemoryInteger,
+            TokenKind::RefusedInteger,
+            TokenKind::RefusedInteger,
+            TokenKind::Word,
+            TokenKind::Word,
+            TokenKind::Word,
+            TokenKind::Word,
         ],
     ),
     (
         "@f @5 @\"5\" @llvm @llvmx @llvm.x",
         &[
-            Head::Global,
-            Head::NumberedGlobal,
-            Head::Global,
-            Head::ReservedGlobal,
-            Head::Global,
-            Head::ReservedGlobal,
+            TokenKind::Global,
+            TokenKind::NumberedGlobal,
+            TokenKind::Global,
+            TokenKind::ReservedGlobal,
+            TokenKind::Global,
+            TokenKind::ReservedGlobal,
         ],
     ),
     (
         "@llvm.lifetime.start.p0 @\"llvm.lifetime.end.p0\" @\"\\6clvm\" @\"llvm\\2Ey\" @\"llv\"",
         &[
-            Head::LifetimeMarker,
-            Head::LifetimeMarker,
-            Head::ReservedGlobal,
-            Head::ReservedGlobal,
-            Head::Global,
+            TokenKind::LifetimeMarker,
+            TokenKind::LifetimeMarker,
+            TokenKind::ReservedGlobal,
+            TokenKind::ReservedGlobal,
+            TokenKind::Global,
         ],
     ),
     (
         "@5 = internal @5=;c\nprivate @5 = global @5 = internal: @6",
         &[
-            Head::NumberedDefinition,
-            Head::Equals,
-            Head::Internal,
-            Head::NumberedDefinition,
-            Head::Equals,
-            Head::Private,
-            Head::NumberedGlobal,
-            Head::Equals,
-            Head::GlobalVariable,
-            Head::NumberedGlobal,
-            Head::Equals,
-            Head::Label,
-            Head::NumberedGlobal,
+            TokenKind::NumberedDefinition,
+            TokenKind::Equals,
+            TokenKind::Internal,
+            TokenKind::NumberedDefinition,
+            TokenKind::Equals,
+            TokenKind::Private,
+            TokenKind::NumberedGlobal,
+            TokenKind::Equals,
+            TokenKind::GlobalVariable,
+            TokenKind::NumberedGlobal,
+            TokenKind::Equals,
+            TokenKind::Label,
+            TokenKind::NumberedGlobal,
         ],
     ),
     (
         "#0 #dbg_value # x ... ^",
         &[
-            Head::Group,
-            Head::RefusedMark,
-            Head::Word,
-            Head::Mark,
-            Head::Times,
-            Head::RefusedMark,
-            Head::RefusedMark,
+            TokenKind::Group,
+            TokenKind::RefusedMark,
+            TokenKind::Word,
+            TokenKind::Mark,
+            TokenKind::Times,
+            TokenKind::RefusedMark,
+            TokenKind::RefusedMark,
         ],
     ),
     (
         "! !0 !dbg $f comdat e:",
         &[
-            Head::Bang,
-            Head::Meta,
-            Head::Meta,
-            Head::ComdatName,
-            Head::Comdat,
-            Head::Label,
+            TokenKind::Bang,
+            TokenKind::Meta,
+            TokenKind::Meta,
+            TokenKind::ComdatName,
+            TokenKind::Comdat,
+            TokenKind::Label,
         ],
     ),
     (
         "x label %x 7 \"s\" c\"s\" ( ) [ ] { } < > , =",
         &[
-            Head::Times,
-            Head::LabelType,
-            Head::Local,
-            Head::Number,
-            Head::Str,
-            Head::CStr,
-            Head::OpenParen,
-            Head::CloseParen,
-            Head::OpenBracket,
-            Head::CloseBracket,
-            Head::OpenBrace,
-            Head::CloseBrace,
-            Head::OpenAngle,
-            Head::CloseAngle,
-            Head::Comma,
-            Head::Equals,
+            TokenKind::Times,
+            TokenKind::LabelType,
+            TokenKind::Local,
+            TokenKind::Number,
+            TokenKind::Str,
+            TokenKind::CStr,
+            TokenKind::OpenParen,
+            TokenKind::CloseParen,
+            TokenKind::OpenBracket,
+            TokenKind::CloseBracket,
+            TokenKind::OpenBrace,
+            TokenKind::CloseBrace,
+            TokenKind::OpenAngle,
+            TokenKind::CloseAngle,
+            TokenKind::Comma,
+            TokenKind::Equals,
         ],
     ),
     (
         "undef null_pointer_is_valid token alwaysinline dereferenceable_or_null",
         &[
-            Head::RefusedWord,
-            Head::RefusedAttribute,
-            Head::RefusedType,
-            Head::Word,
-            Head::ParameterGroup,
+            TokenKind::RefusedWord,
+            TokenKind::RefusedAttribute,
+            TokenKind::RefusedType,
+            TokenKind::Word,
+            TokenKind::ParameterGroup,
         ],
     ),
 ];
@@ -294,7 +294,7 @@ fn kinds(alloc: Global, text: &[u8]) -> Result<String, AllocError> {
     match tokens(alloc, text) {
         Ok(list) => {
             for token in &list {
-                let _written = write!(out, "{:?} ", token.kind);
+                let _written = write!(out, "{:?} ", token.form);
             }
         }
         Err(LexError::Fault { line }) => {

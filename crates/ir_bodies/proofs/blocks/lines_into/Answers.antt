@@ -3,7 +3,7 @@ use Rattle.std.specs.List.{fold}
 use Rattle.ir_read.specs.Alphabet.{among}
 use Rattle.ir_read.specs.Readers.{Fails, done, follow}
 use Rattle.ir_read.specs.Classes.{tokens}
-use Rattle.ir_read.specs.declared.raw.Line.{Line}
+use Rattle.ir_read.specs.declared.raw.WrittenLine.{WrittenLine}
 use Rattle.ir_bodies.specs.Blocks.{keep}
 use Rattle.ir_bodies.specs.BlocksAt.{all_lines_at}
 use Rattle.ir_bodies.specs.LinesAt.{LINE, line_at}
@@ -14,7 +14,7 @@ use Rattle.ir_bodies.proofs.blocks.lines_into.Goals as goal
 pub each-preserved : goal.each-preserved
 each-preserved c =
     let k = kept_read c.each.list.lines.items _ _ (line_at c.each.tokens) c.in_ok-line_into.ensures in
-    ap (λ (x : List Line). counted keep x (c.each.left - 1) (all_lines_at (c.each.left - 1) c.line_into.new.tokens)) k.2
+    ap (λ (x : List WrittenLine). counted keep x (c.each.left - 1) (all_lines_at (c.each.left - 1) c.line_into.new.tokens)) k.2
     ∙ counts_on (among tokens LINE) line_at keep c.each.list.lines.items c.each.left _ _ _ _ (omega arith) c.each-test.ensures k.1 c.each.invariant
 
 pub returns : goal.returns

@@ -3,7 +3,7 @@ use Rattle.ir_meaning.specs.Execute.{Effect, puts_char}
 use Rattle.ir_meaning.specs.Act.{apply}
 use Rattle.ir_meaning.specs.Fault as fault
 use Rattle.ir_meaning.specs.Memory.{Memory as MeantMemory}
-use Rattle.ir_meaning.specs.declared.fault.Cause.TheVariants.{PoisonArgument}
+use Rattle.ir_tree.specs.declared.cause.Cause.TheVariants.{PoisonArgument}
 use Rattle.ir_meaning.specs.declared.value.Value.{Value as MeantValue}
 use Rattle.ir_machine.proofs.Holding.{on_err}
 use Rattle.ir_interp.specs.Calls.{all_meant, put_effect}

@@ -30,7 +30,7 @@ each-preserved c =
     let gap = c.gap_behind-gap in
     let back : c.split_at-in-len1-up-2.result.1.now ≡ drop gap.result.at c.split_at-in-len1-up.result.1.now = c.split_at-in-len1-up-2.ensures.back in
     let s = goes_on _ c.each.rest.now c.split_at-in-len1-up.result.0.now c.split_at-in-len1-up.result.1.now c.split_at-in-len1-up-2.result.1.now _ _ _ _ c.in-Some.fit _ _ c.each.invariant.so_far c.in-Some.ensures.found c.in-Some.ensures.bad c.in-Some.ensures.within.1
-    c.split_at-in-len1-up.ensures.front c.split_at-in-len1-up.ensures.back c.head_of-head.ensures refl (gap.ensures.exact ∙ ap (λ (x : List ℕ). place gap.result.line x) (sym back))
+    c.split_at-in-len1-up.ensures.front c.split_at-in-len1-up.ensures.back c.kind_of-kind.ensures refl (gap.ensures.exact ∙ ap (λ (x : List ℕ). place gap.result.line x) (sym back))
     (gap.ensures.ends ∙ ap (λ (x : List ℕ). ends_before (line_behind c.each.line c.split_at-in-len1-up.result.0.now) (place gap.result.line x)) (sym back)) in
     record {
       so_far = subst (λ (ts : List Tok). Stands c.args.bytes.now ts gap.result.line c.split_at-in-len1-up-2.result.1.now) (sym e) s;

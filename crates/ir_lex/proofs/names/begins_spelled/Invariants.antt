@@ -1,5 +1,5 @@
 use Rattle.std.proofs.Common.{◌≡◌, length}
-use Rattle.ir_lex.specs.Heads.{begins_with}
+use Rattle.ir_lex.specs.TokenKinds.{begins_with}
 use Rattle.ir_lex.specs.Quotes.{unescaped}
 use Rattle.ir_lex.proofs.names.begins_spelled.Given as goal
 

@@ -1,5 +1,5 @@
 use Rattle.std.proofs.Common.{◌≡◌, length}
-use Rattle.ir_lex.specs.Heads.{begins_with}
+use Rattle.ir_lex.specs.TokenKinds.{begins_with}
 use Rattle.ir_lex.proofs.names.begins_with.Given as goal
 
 abbrev pub invariant-each : goal.invariant-each

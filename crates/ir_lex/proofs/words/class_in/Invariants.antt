@@ -1,5 +1,5 @@
 use Rattle.std.proofs.Common.{◌≡◌, length, map}
-use Rattle.ir_lex.specs.Heads.{class_in}
+use Rattle.ir_lex.specs.TokenKinds.{class_in}
 use Rattle.ir_lex.proofs.words.class_in.Given as goal
 
 abbrev pub invariant-loop-rows : goal.invariant-loop-rows

@@ -1,17 +1,17 @@
 use Rattle.std.proofs.Common.{◌≡◌, ◌+◌, ◌-◌, ◌*◌, ◌<◌, ◌≤◌, ◌^◌, ℕ, List, length, take, drop, subst, sym, arith}
 use Rattle.std.proofs.lemmas.List.{length-drop, length-take}
-use Rattle.ir_machine.specs.declared.mark.Mark.{Mark}
+use Rattle.ir_machine.specs.declared.mark.ByteMark.{ByteMark}
 use Rattle.ir_machine.proofs.Marking.{eight_bytes, raised_below}
 use Rattle.ir_machine.proofs.mark.+number_in.Goals as goal
 
 -- the bound at the whole list's length
-below : (b h : ℕ) (xs : List Mark) → 1 ≤ length xs → b < 256 → h < 2 ^ (8 * length (take (length xs - 1) (drop 1 xs))) →
+below : (b h : ℕ) (xs : List ByteMark) → 1 ≤ length xs → b < 256 → h < 2 ^ (8 * length (take (length xs - 1) (drop 1 xs))) →
     b + 256 * h < 2 ^ (8 * length xs)
 below b h xs some small under =
-    let rest : length xs ≡ length (take (length xs - 1) (drop 1 xs)) + 1 = omega (arith, some, length-drop {A = Mark}, length-take {A = Mark}) in
+    let rest : length xs ≡ length (take (length xs - 1) (drop 1 xs)) + 1 = omega (arith, some, length-drop {A = ByteMark}, length-take {A = ByteMark}) in
     subst (λ (k : ℕ). b + 256 * h < 2 ^ (8 * k)) (sym rest) (raised_below b h (length (take (length xs - 1) (drop 1 xs))) small under)
 
-fits : (b h : ℕ) (xs : List Mark) → length xs ≤ 8 → 1 ≤ length xs → b < 256 →
+fits : (b h : ℕ) (xs : List ByteMark) → length xs ≤ 8 → 1 ≤ length xs → b < 256 →
     h < 2 ^ (8 * length (take (length xs - 1) (drop 1 xs))) → b + 256 * h < 2 ^ 64
 fits b h xs few some small under = eight_bytes (b + 256 * h) (length xs) few (below b h xs some small under)
 

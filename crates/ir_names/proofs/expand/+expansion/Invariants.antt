@@ -2,7 +2,7 @@ use Rattle.std.proofs.Common.{◌≡◌, ◌+◌, ◌*◌, drop}
 use Rattle.ir_read.specs.Shapes.{list_of, parts_of}
 use Rattle.ir_tree.specs.Forms.{forms_of}
 use Rattle.ir_tree.specs.Layout.{AreLaidOut}
-use Rattle.ir_names.specs.Settled.{each}
+use Rattle.ir_names.specs.Resolving.{each}
 use Rattle.ir_names.specs.Types.{expand}
 use Rattle.ir_names.proofs.Each.{in_front}
 use Rattle.ir_names.proofs.expand.+expansion.Given as goal

@@ -1,5 +1,5 @@
 use Rattle.std.proofs.Common.{◌≡◌, ℕ, suc, ◌-◌, ◌*◌, ◌<◌, Bool, not, List, length, Ok, sym, ap, subst, ◌∙◌, arith}
-use Rattle.ir_lex.specs.declared.head.Head.TheVariants as heads
+use Rattle.ir_lex.specs.declared.token_kind.TokenKind.TheVariants as kinds
 use Rattle.ir_lex.specs.Tok.{Tok}
 use Rattle.ir_read.specs.Alphabet.{among}
 use Rattle.ir_read.specs.Chained.{chain_at}
@@ -64,7 +64,7 @@ more_members_at-each-preserved t c =
 pub more_members_at-returns-clause-exact : goal.more_members_at-returns-clause-exact
 unfolding more_members_at
 more_members_at-returns-clause-exact t c =
-    then_closed c.args.first.shape (chain_at anywhere begins (further_at c.args.packed (λ s. shape_at c.args.depth (left c.args.packed c.args.room s))) (grown c.args.packed no_bytes (extent_of c.args.first.shape)) c.args.tokens.now) (the_at heads.CloseBrace) c.each.shapes.items c.each.tokens _
+    then_closed c.args.first.shape (chain_at anywhere begins (further_at c.args.packed (λ s. shape_at c.args.depth (left c.args.packed c.args.room s))) (grown c.args.packed no_bytes (extent_of c.args.first.shape)) c.args.tokens.now) (the_at kinds.CloseBrace) c.each.shapes.items c.each.tokens _
     (sym (first_and_others c.args.first.shape (chain_at anywhere begins (further_at c.args.packed (λ s. shape_at c.args.depth (left c.args.packed c.args.room s))) (grown c.args.packed no_bytes (extent_of c.args.first.shape)) c.args.tokens.now))
     ∙ chain_none anywhere begins (further_at c.args.packed (λ s. shape_at c.args.depth (left c.args.packed c.args.room s))) (shorter c.args.packed c.args.depth c.args.room) behind c.each.shapes.items c.each.extent _ _ (ap not (sym c.each-test.ensures)) c.each.invariant.read)
     c.in_ok-expect.ensures

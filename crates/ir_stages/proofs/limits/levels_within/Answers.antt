@@ -3,7 +3,7 @@ use Rattle.std.proofs.lemmas.Result.{err_from_is_err_and}
 use Rattle.ir_read.specs.declared.address.Level.{Level}
 use Rattle.ir_tree.specs.declared.failure.Failure.{Failure}
 use Rattle.ir_names.specs.declared.fault.Fault.{Fault}
-use Rattle.ir_names.specs.Settled.{Settles}
+use Rattle.ir_names.specs.Resolving.{ResolvesTo}
 use Rattle.ir_names.specs.Stages.{passes, levels_within}
 use Rattle.ir_names.specs.Types.{expanded}
 use Rattle.ir_stages.proofs.Levels.{fails}
@@ -19,6 +19,6 @@ returns-in_err-shape_within c =
     let same : c.from_residual.result ≡ Err e = p.1 ∙ ap (λ (x : Failure Fault). Err x) p.2 in
     let again : c.each.left ≡ c.each.left - 1 + 1 = omega arith in
     let passed = subst (λ n. levels_within types (drop n levels) ≡ Ok tt) again c.each.invariant.passed in
-    let refused = subst (λ (l : Level). Settles {X = Unit {0}} {Y = Unit {0}} (λ u. u) (Err e) (passes (expanded types l.typed))) (sym c.index-levels-left.is) c.in_err-shape_within.ensures in
-    subst (λ (r : Result (Unit {0}) (Failure Fault)). Settles {X = Unit {0}} {Y = Unit {0}} (λ u. u) r (levels_within types levels)) (sym same)
+    let refused = subst (λ (l : Level). ResolvesTo {X = Unit {0}} {Y = Unit {0}} (λ u. u) (Err e) (passes (expanded types l.typed))) (sym c.index-levels-left.is) c.in_err-shape_within.ensures in
+    subst (λ (r : Result (Unit {0}) (Failure Fault)). ResolvesTo {X = Unit {0}} {Y = Unit {0}} (λ u. u) r (levels_within types levels)) (sym same)
     (fails (λ (u : Unit {0}). u) e types levels (c.each.left - 1) level (omega (arith, c.each.invariant.within)) c.index-levels-left.is passed refused)

@@ -1,7 +1,7 @@
 use Rattle.std.proofs.Common.{◌≡◌, ◌≤◌, drop}
 use Rattle.ir_read.specs.Shapes.{parts_of}
 use Rattle.ir_read.specs.ShapeSizes.{nodes, all_nodes}
-use Rattle.ir_names.specs.Settled.{each}
+use Rattle.ir_names.specs.Resolving.{each}
 use Rattle.ir_names.proofs.Each.{in_front}
 use Rattle.named_types.specs.Measures.{weigh, AreSmall}
 use Rattle.named_types.proofs.weigh.+weighing.Given as goal

@@ -1,7 +1,7 @@
 use Rattle.std.proofs.Common.{sym, ◌∙◌, subst, List, []}
 use Rattle.ir_tree.specs.Initials.{IsFlat}
 use Rattle.ir_tree.specs.declared.init_node.InitPart.{InitPart}
-use Rattle.ir_names.specs.Settled.{each}
+use Rattle.ir_names.specs.Resolving.{each}
 use Rattle.ir_names.specs.Variables.{part_in}
 use Rattle.named_values.proofs.Closings.{started, started_flat, stepped, stepped_flat}
 use Rattle.named_values.proofs.initialiser.parts_in.Goals as goal

@@ -1,7 +1,7 @@
 use Rattle.std.proofs.Common.{◌≡◌, List, drop}
 use Rattle.ir_tree.specs.Initials.{IsFlat}
 use Rattle.ir_tree.specs.declared.init_node.InitPart.{InitPart}
-use Rattle.ir_names.specs.Settled.{each}
+use Rattle.ir_names.specs.Resolving.{each}
 use Rattle.ir_names.specs.Variables.{part_in}
 use Rattle.named_values.specs.Closing.{finished, tree_in}
 use Rattle.named_values.proofs.Closings.{tree_onto}

@@ -1,6 +1,6 @@
 use Rattle.std.proofs.Common.{◌≡◌, drop}
 use Rattle.ir_names.specs.Bodies.{argument_in}
-use Rattle.ir_names.specs.Settled.{each}
+use Rattle.ir_names.specs.Resolving.{each}
 use Rattle.ir_names.proofs.Each.{in_front}
 use Rattle.named_values.proofs.operand.arguments_in.Given as goal
 

@@ -5,7 +5,7 @@ use Rattle.ir_interp.specs.Runs.{ending_meant}
 use Rattle.ir_interp.specs.declared.end.RunEnd.{RunEnd}
 use Rattle.ir_interp.specs.Scenes.{answer_meant}
 use Rattle.run_program.specs.Files.{file_in}
-use Rattle.run_program.specs.Said.{ending_refusal, told_cause}
+use Rattle.run_program.specs.Said.{ending_refusal}
 use Rattle.run_program.proofs.Interpreting.{tells_undefined, tells_uninit}
 use Rattle.run_program.proofs.ending.ended.Goals as goal
 
@@ -22,7 +22,7 @@ returns-in-Undefined-clause-because c =
     let files = file_in c.args.names.now c.args.resolution.now in
     let place = c.in-Undefined.place in
     let at = symbol_at names place.function in
-    tells_undefined at.name (files at) place.instruction (told_cause c.in-Undefined.cause) (ending_refusal files c.args.steps (ending_meant names c.args.end))
+    tells_undefined at.name (files at) place.instruction c.in-Undefined.cause (ending_refusal files c.args.steps (ending_meant names c.args.end))
     (ap (λ (e : RunEnd). ending_refusal files c.args.steps (ending_meant names e)) c.in-Undefined.is)
     c.undefined.result c.undefined.ensures
 

@@ -1,7 +1,7 @@
 use Rattle.std.proofs.Common.{ℕ, List, Option, Some, refl, sym, subst}
 use Rattle.link_one.specs.Accepted.{Refuses}
 use Rattle.ir_tree.specs.declared.fault_kind.FaultKind.TheVariants.{Limit}
-use Rattle.lto_fault.specs.declared.kind.Kind.TheVariants.{Unread}
+use Rattle.lto_fault.specs.declared.kind.RefusalKind.TheVariants.{Unread}
 use Rattle.lto_words.specs.Fetching.{IsShort}
 use Rattle.thinlto_main.specs.Modules.{IsBad}
 use Rattle.thinlto_main.proofs.Reading.{bad_because}

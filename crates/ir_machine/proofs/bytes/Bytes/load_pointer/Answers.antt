@@ -6,7 +6,7 @@ use Rattle.ir_meaning.specs.Operate.{Is}
 use Rattle.ir_meaning.specs.declared.value.Byte.{Byte}
 use Rattle.ir_machine.specs.Bytes.{pointer_at}
 use Rattle.ir_machine.specs.Meant.{meant}
-use Rattle.ir_machine.specs.declared.mark.Mark.{Mark}
+use Rattle.ir_machine.specs.declared.mark.ByteMark.{ByteMark}
 use Rattle.ir_machine.specs.declared.scalar.Scalar.{Scalar}
 use Rattle.ir_machine.specs.Origins.{IsHeld}
 use Rattle.ir_machine.specs.declared.outcome.Outcome.TheVariants.{Value as OfValue}
@@ -27,8 +27,8 @@ returns-then-any_spoilt-clause-value c = λ names.
     (window_of names (pointer_at c.args.self.now) 8 (c.args.place + 8 - c.args.place) c.args.place c.args.self.now.marks.items c.deref.result.now c.deref.ensures.value (omega arith))
     ∙ pointer_spoilt names (pointer_at c.args.self.now) c.args.place (take (c.args.place + 8 - c.args.place) (drop c.args.place c.deref.result.now)) (sym c.any_unset.ensures ∙ c.if-any_unset.false) (sym c.any_spoilt.ensures ∙ c.if-any_spoilt.true))
 
-some : (xs : List Mark) (n o : ℕ) → n ≡ 8 → o + 8 ≤ length xs → 1 ≤ length (take n (drop o xs))
-some xs n o e h = omega (arith, e, h, length-drop {A = Mark}, length-take {A = Mark})
+some : (xs : List ByteMark) (n o : ℕ) → n ≡ 8 → o + 8 ≤ length xs → 1 ≤ length (take n (drop o xs))
+some xs n o e h = omega (arith, e, h, length-drop {A = ByteMark}, length-take {A = ByteMark})
 
 pub returns-clause-value : goal.returns-clause-value
 returns-clause-value c = λ names.

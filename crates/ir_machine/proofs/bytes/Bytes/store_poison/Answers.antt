@@ -1,7 +1,7 @@
 use Rattle.std.proofs.Common.{ap, ◌∙◌, replicate}
 use Rattle.ir_machine.specs.Bytes.{pointer_at}
 use Rattle.ir_machine.specs.Marks.{are_small}
-use Rattle.ir_machine.specs.declared.mark.Mark.TheVariants.{Spoilt}
+use Rattle.ir_machine.specs.declared.mark.ByteMark.TheVariants.{Spoilt}
 use Rattle.ir_machine.proofs.Writing.{poison_stored, small_poison, small_written}
 use Rattle.ir_machine.proofs.bytes.Bytes.store_poison.Goals as goal
 

@@ -1,8 +1,8 @@
 use Rattle.std.proofs.Common.{ℕ, List, ap, ◌∙◌}
 use Rattle.ir_machine.specs.Bytes.{marks_meant, pointer_or_null}
 use Rattle.ir_machine.specs.Marks.{are_small}
-use Rattle.ir_machine.specs.declared.mark.Mark.{Mark}
-use Rattle.ir_machine.specs.declared.mark.Mark.TheVariants.{Plain}
+use Rattle.ir_machine.specs.declared.mark.ByteMark.{ByteMark}
+use Rattle.ir_machine.specs.declared.mark.ByteMark.TheVariants.{Plain}
 use Rattle.ir_machine.proofs.Filling.{filled, zeros_meant, zeros_small}
 use Rattle.ir_machine.proofs.Origins.{none_in}
 use Rattle.ir_machine.proofs.bytes.Bytes.zeros.Goals as goal
@@ -14,7 +14,7 @@ invariant_of-result c = record {
 
 pub returns-clause-bytes : goal.returns-clause-bytes
 returns-clause-bytes c = λ names.
-    ap (λ (ms : List Mark). marks_meant names (λ (r : ℕ). pointer_or_null (Rattle.std.specs.HashMap.get Rattle.std.specs.Prelude.nat_eq c.new.result r)) 0 ms)
+    ap (λ (ms : List ByteMark). marks_meant names (λ (r : ℕ). pointer_or_null (Rattle.std.specs.HashMap.get Rattle.std.specs.Prelude.nat_eq c.new.result r)) 0 ms)
     (filled c.args.size _ c.new-marks.result.items c.resize.new.self.items (Plain 0) c.in_ok-resize.ensures.items c.new-marks.ensures.items c.new-marks.ensures.len)
     ∙ zeros_meant names (λ (r : ℕ). pointer_or_null (Rattle.std.specs.HashMap.get Rattle.std.specs.Prelude.nat_eq c.new.result r)) 0 c.args.size
 

@@ -5,10 +5,10 @@ use Rattle.ir_tree.specs.declared.failure.Failure.{Failure}
 use Rattle.ir_tree.specs.declared.failure.Failure.TheVariants as errors
 
 -- what a call returned is this, unless memory ran out
-abbrev pub Settles : {X Y : Type 0} → (X → Y) → Result X (Failure Fault) → Result Y Fault → Type 0
-Settles view (Ok x) r = r ≡ Ok (view x)
-Settles view (Err errors.NoMemory) r = Unit {0}
-Settles view (Err (errors.Fault fault)) r = r ≡ Err fault
+abbrev pub ResolvesTo : {X Y : Type 0} → (X → Y) → Result X (Failure Fault) → Result Y Fault → Type 0
+ResolvesTo view (Ok x) r = r ≡ Ok (view x)
+ResolvesTo view (Err errors.NoMemory) r = Unit {0}
+ResolvesTo view (Err (errors.Fault fault)) r = r ≡ Err fault
 
 infixl 10 ◌>>=◌
 abbrev pub ◌>>=◌ : {A B E : Type 0} → Result A E → (A → Result B E) → Result B E

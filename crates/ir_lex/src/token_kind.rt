@@ -1,19 +1,19 @@
-//! What a token is to a grammar: the class that a reader chooses by.
+//! What a token is to a grammar: the kind that a reader chooses by.
 
 ghost use Rattle.std.specs.Prelude.{◌≡◌, ◌<◌, ◌≤◌, ◌^◌, nat_eq, [], ◌∷◌, drop, length};
-ghost use Rattle.ir_lex.specs.Heads.{integer_head, is_plain_number, width_of, width_head, begins_word, mark_head, head_of, listed_head, word_head, number};
+ghost use Rattle.ir_lex.specs.TokenKinds.{integer_kind, is_plain_number, width_of, width_kind, begins_word, mark_kind, kind_of, listed_kind, word_kind, number};
 
 use crate::bytes::{Set, run, starts_word};
-use crate::names::global_head;
-use crate::token::{Kind, Token};
-use crate::words::listed_head;
+use crate::names::global_kind;
+use crate::token::{Token, TokenForm};
+use crate::words::listed_kind;
 
-/// The class of a token: each word and mark that the language speaks of, and each kind of name,
-/// number and string. Words that the grammar never tells apart share a class.
+/// The kind of a token: each word and mark that the language speaks of, and each sort of name,
+/// number and string, as LLVM's `lltok` has them. Words that the grammar never tells apart share a kind.
 ///
 /// LangRef, "Identifiers", "Linkage Types", "Parameter Attributes", "Instruction Reference".
 #[derive(Clone, Copy, PartialEq, Eq)]
-pub enum Head {
+pub enum TokenKind {
     /// A decimal integer: `-12`.
     Number,
     /// A local value, block or type: `%x`.
@@ -284,41 +284,41 @@ fn width_of(digits: &[u8]) -> u32
     }
 }
 
-/// The class of an integer type of this width.
-fn width_head(width: u32) -> Head
-    ensures { result ≡ width_head width }
+/// The kind of an integer type of this width.
+fn width_kind(width: u32) -> TokenKind
+    ensures { result ≡ width_kind width }
 {
     if 0 < width && width <= 64 {
-        Head::RegisterInteger
+        TokenKind::RegisterInteger
     } else {
-        Head::RefusedInteger
+        TokenKind::RefusedInteger
     }
 }
 
-/// The class of a word that the list doesn't have.
-fn integer_head(text: &[u8]) -> Head
-    ensures { result ≡ integer_head text.now }
+/// The kind of a word that the list doesn't have.
+fn integer_kind(text: &[u8]) -> TokenKind
+    ensures { result ≡ integer_kind text.now }
 {
     match text {
         [b'i', digits @ ..] => {
             if is_plain_number(digits) {
-                width_head(width_of(digits))
+                width_kind(width_of(digits))
             } else {
-                Head::Word
+                TokenKind::Word
             }
         }
-        _ => Head::Word,
+        _ => TokenKind::Word,
     }
 }
 
-/// The class of a word: its entry in the list of words, or that of an integer type.
-#[tactic(auto, unfolding(crate::specs::Heads::word_head))]
-fn word_head(text: &[u8]) -> Head
-    ensures { result ≡ word_head text.now }
+/// The kind of a word: its entry in the list of words, or that of an integer type.
+#[tactic(auto, unfolding(crate::specs::TokenKinds::word_kind))]
+fn word_kind(text: &[u8]) -> TokenKind
+    ensures { result ≡ word_kind text.now }
 {
-    let listed = listed_head(text);
-    if listed.is(Head::Word) {
-        integer_head(text)
+    let listed = listed_kind(text);
+    if listed.is(TokenKind::Word) {
+        integer_kind(text)
     } else {
         listed
     }
@@ -334,83 +334,83 @@ fn begins_word(bytes: &[u8]) -> bool
     }
 }
 
-/// The class of this byte alone before others.
-#[tactic(auto, unfolding(crate::specs::Heads::mark_head))]
-fn single_head(mark: u8, behind: &[u8]) -> Head
-    ensures { result ≡ mark_head (mark ∷ []) behind.now }
+/// The kind of this byte alone before others.
+#[tactic(auto, unfolding(crate::specs::TokenKinds::mark_kind))]
+fn single_kind(mark: u8, behind: &[u8]) -> TokenKind
+    ensures { result ≡ mark_kind (mark ∷ []) behind.now }
 {
     match mark {
-        b'(' => Head::OpenParen,
-        b')' => Head::CloseParen,
-        b'[' => Head::OpenBracket,
-        b']' => Head::CloseBracket,
-        b'{' => Head::OpenBrace,
-        b'}' => Head::CloseBrace,
-        b'<' => Head::OpenAngle,
-        b'>' => Head::CloseAngle,
-        b',' => Head::Comma,
-        b'=' => Head::Equals,
-        b'^' => Head::RefusedMark,
+        b'(' => TokenKind::OpenParen,
+        b')' => TokenKind::CloseParen,
+        b'[' => TokenKind::OpenBracket,
+        b']' => TokenKind::CloseBracket,
+        b'{' => TokenKind::OpenBrace,
+        b'}' => TokenKind::CloseBrace,
+        b'<' => TokenKind::OpenAngle,
+        b'>' => TokenKind::CloseAngle,
+        b',' => TokenKind::Comma,
+        b'=' => TokenKind::Equals,
+        b'^' => TokenKind::RefusedMark,
         b'#' => {
             if begins_word(behind) {
-                Head::RefusedMark
+                TokenKind::RefusedMark
             } else {
-                Head::Mark
+                TokenKind::Mark
             }
         }
-        _ => Head::Mark,
+        _ => TokenKind::Mark,
     }
 }
 
-/// The class of a single byte before others.
-#[tactic(auto, unfolding(crate::specs::Heads::mark_head))]
-fn mark_head(text: &[u8], behind: &[u8]) -> Head
-    ensures { result ≡ mark_head text.now behind.now }
+/// The kind of a single byte before others.
+#[tactic(auto, unfolding(crate::specs::TokenKinds::mark_kind))]
+fn mark_kind(text: &[u8], behind: &[u8]) -> TokenKind
+    ensures { result ≡ mark_kind text.now behind.now }
 {
     match text {
-        [mark] => single_head(*mark, behind),
-        _ => Head::Mark,
+        [mark] => single_kind(*mark, behind),
+        _ => TokenKind::Mark,
     }
 }
 
-/// The class of a token of this kind before others.
-#[tactic(auto, unfolding(crate::specs::Heads::head_of))]
-pub fn head_of(kind: Kind, text: &[u8], behind: &[u8]) -> Head
+/// The kind of a token of this form before others.
+#[tactic(auto, unfolding(crate::specs::TokenKinds::kind_of))]
+pub fn kind_of(form: TokenForm, text: &[u8], behind: &[u8]) -> TokenKind
     requires { length behind.now < 2 ^ 32 }
-    ensures { result ≡ head_of kind text.now behind.now }
+    ensures { result ≡ kind_of form text.now behind.now }
 {
-    match kind {
-        Kind::Label => Head::Label,
-        Kind::Number => Head::Number,
-        Kind::Word => word_head(text),
-        Kind::Local => Head::Local,
-        Kind::Global => global_head(text, behind),
-        Kind::Comdat => Head::ComdatName,
-        Kind::Meta => {
+    match form {
+        TokenForm::Label => TokenKind::Label,
+        TokenForm::Number => TokenKind::Number,
+        TokenForm::Word => word_kind(text),
+        TokenForm::Local => TokenKind::Local,
+        TokenForm::Global => global_kind(text, behind),
+        TokenForm::Comdat => TokenKind::ComdatName,
+        TokenForm::Meta => {
             if text.len() == 1 {
-                Head::Bang
+                TokenKind::Bang
             } else {
-                Head::Meta
+                TokenKind::Meta
             }
         }
-        Kind::Group => Head::Group,
-        Kind::Str => Head::Str,
-        Kind::CStr => Head::CStr,
-        Kind::Dots => Head::RefusedMark,
-        Kind::Other => mark_head(text, behind),
+        TokenForm::Group => TokenKind::Group,
+        TokenForm::Str => TokenKind::Str,
+        TokenForm::CStr => TokenKind::CStr,
+        TokenForm::Dots => TokenKind::RefusedMark,
+        TokenForm::Other => mark_kind(text, behind),
     }
 }
 
-impl Head {
-    /// The place of the class in the list of classes, counted from 0.
+impl TokenKind {
+    /// The place of the kind in the list of kinds, counted from 0.
     pub fn number(self) -> u8
         ensures { result ≡ number self }
     {
         self as u8
     }
 
-    /// Whether this is the same class.
-    pub fn is(self, other: Head) -> bool
+    /// Whether this is the same kind.
+    pub fn is(self, other: TokenKind) -> bool
         ensures { result ≡ nat_eq (number self) (number other) }
     {
         self.number() == other.number()
@@ -418,7 +418,7 @@ impl Head {
 }
 
 impl<'a> Token<'a> {
-    /// The width in bits of an integer type, a token of class `MemoryInteger` or
+    /// The width in bits of an integer type, a token of kind `MemoryInteger` or
     /// `RegisterInteger`: what its two digits at most write.
     pub fn width(&self) -> u32
         ensures { result ≡ width_of (drop 1 self.now.text.now) }
