@@ -18,8 +18,8 @@ use crate::pairs::beside;
 use ir_lex::TokenKind;
 use ir_operands::{brace_behind_angle_at, memory_shape_at};
 use ir_read::{
-    Fault, Init, InitHead, InitPart, Name, ReaderError, Shape, ShapeNode, TokenFault, Tokens,
-    Typed, done, expect, memory_refusal, refusal,
+    Fault, Init, InitHead, InitPart, Name, ReaderError, TokenFault, Tokens, Typed, WrittenShape,
+    WrittenShapeNode, done, expect, memory_refusal, refusal,
 };
 use ir_tree::{Reg, Rows};
 use std::alloc::{AllocFailed, Global};
@@ -48,15 +48,15 @@ struct Piece {
 }
 
 /// The scalar that a shape is, if it is one.
-pub fn scalar_of(shape: &Shape) -> Option<Reg>
+pub fn scalar_of(shape: &WrittenShape) -> Option<Reg>
     ensures { result ≡ scalar_of shape.now }
 {
     match shape.node() {
-        ShapeNode::Int(width) => Some(Reg::Int(*width)),
-        ShapeNode::Ptr => Some(Reg::Ptr),
-        ShapeNode::Array(_, _) => None,
-        ShapeNode::Struct(_, _) => None,
-        ShapeNode::Named(_) => None,
+        WrittenShapeNode::Int(width) => Some(Reg::Int(*width)),
+        WrittenShapeNode::Ptr => Some(Reg::Ptr),
+        WrittenShapeNode::Array(_, _) => None,
+        WrittenShapeNode::Struct(_, _) => None,
+        WrittenShapeNode::Named(_) => None,
     }
 }
 

@@ -18,8 +18,8 @@ use crate::instructions::{align_at, aligned_at, argument_at, pointed_at};
 use ir_lex::{Token, TokenKind};
 use ir_operands::{Listing, Measured, counted, memory_shape_at, push, stepping_at};
 use ir_read::{
-    Argument, Fault, Instr, Operand, ReaderError, Shape, ShapeNode, TokenFault, Tokens,
-    attached_at, done, expect, integer_at, refusal,
+    Argument, Fault, Instr, Operand, ReaderError, TokenFault, Tokens, WrittenShape,
+    WrittenShapeNode, attached_at, done, expect, integer_at, refusal,
 };
 use ir_tree::Rows;
 use std::alloc::Global;
@@ -33,19 +33,19 @@ pub struct Slots {
 
 /// Whether a shape has at most so many levels of arrays and structures.
 #[cycle(levels)]
-fn nests_within(most: u32, shape: &Shape) -> bool
+fn nests_within(most: u32, shape: &WrittenShape) -> bool
     ensures { result ≡ nests_within most shape.now }
 {
     match shape.node() {
-        ShapeNode::Int(_) | ShapeNode::Ptr | ShapeNode::Named(_) => true,
-        ShapeNode::Array(_, of) => 0 < most && nests_within(most - 1, of),
-        ShapeNode::Struct(_, parts) => 0 < most && all_nest_within(most - 1, parts),
+        WrittenShapeNode::Int(_) | WrittenShapeNode::Ptr | WrittenShapeNode::Named(_) => true,
+        WrittenShapeNode::Array(_, of) => 0 < most && nests_within(most - 1, of),
+        WrittenShapeNode::Struct(_, parts) => 0 < most && all_nest_within(most - 1, parts),
     }
 }
 
 /// Whether each of these shapes has at most so many levels.
 #[cycle(levels)]
-fn all_nest_within(most: u32, parts: &[Shape]) -> bool
+fn all_nest_within(most: u32, parts: &[WrittenShape]) -> bool
     ensures { result ≡ all_nest_within most (parts_of parts.now) }
 {
     'each: for part in parts {

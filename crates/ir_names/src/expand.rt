@@ -12,7 +12,7 @@ ghost use Rattle.ir_names.specs.Types as typing;
 use crate::fault::{Fault, NameFault, ResolveError};
 use crate::heads::Types;
 use crate::types::unknown;
-use ir_read::{Shape, ShapeNode, Typed};
+use ir_read::{Typed, WrittenShape, WrittenShapeNode};
 use ir_tree::{Shape as Tree, align_of, size_of};
 use std::alloc::Global;
 
@@ -151,15 +151,15 @@ fn array_within(alloc: Global, line: u32, count: u64, of: Tree) -> Result<Tree, 
 }
 
 /// A shape that may have no parts.
-fn without_parts(line: u32, head: &Shape) -> Result<Tree, ResolveError>
+fn without_parts(line: u32, head: &WrittenShape) -> Result<Tree, ResolveError>
     ensures given { ResolvesTo (λ s. s) result (without_parts line head.now) }
     ensures laid { IfOk result (λ s. IsLaidOut s) }
 {
     match head.node() {
-        ShapeNode::Int(width) => scalar(line, *width),
-        ShapeNode::Ptr => Ok(Tree::ptr()),
-        ShapeNode::Array(..) | ShapeNode::Struct(..) => Err(limit(line)),
-        ShapeNode::Named(name) => Err(unknown(name.line())),
+        WrittenShapeNode::Int(width) => scalar(line, *width),
+        WrittenShapeNode::Ptr => Ok(Tree::ptr()),
+        WrittenShapeNode::Array(..) | WrittenShapeNode::Struct(..) => Err(limit(line)),
+        WrittenShapeNode::Named(name) => Err(unknown(name.line())),
     }
 }
 
@@ -171,7 +171,7 @@ fn expand<'t>(
     types: &Types<'t>,
     nesting: u32,
     line: u32,
-    shape: &'t Shape,
+    shape: &'t WrittenShape,
 ) -> Result<Tree, ResolveError>
     ensures given { ResolvesTo (λ s. s) result (typing.expand nesting types.now line shape.now) }
     ensures laid { IfOk result (λ s. IsLaidOut s) }
@@ -181,16 +181,16 @@ fn expand<'t>(
         return without_parts(line, head);
     }
     match head.node() {
-        ShapeNode::Int(width) => scalar(line, *width),
-        ShapeNode::Ptr => Ok(Tree::ptr()),
-        ShapeNode::Array(count, of) => {
+        WrittenShapeNode::Int(width) => scalar(line, *width),
+        WrittenShapeNode::Ptr => Ok(Tree::ptr()),
+        WrittenShapeNode::Array(count, of) => {
             let of = expand(alloc, types, nesting - 1, line, of)?;
             array_within(alloc, line, *count, of)
         }
-        ShapeNode::Struct(packed, parts) => {
+        WrittenShapeNode::Struct(packed, parts) => {
             expand_struct(alloc, types, nesting - 1, line, *packed, parts)
         }
-        ShapeNode::Named(name) => Err(unknown(name.line())),
+        WrittenShapeNode::Named(name) => Err(unknown(name.line())),
     }
 }
 
@@ -202,7 +202,7 @@ fn expand_struct<'t>(
     nesting: u32,
     line: u32,
     packed: bool,
-    shapes: &'t [Shape],
+    shapes: &'t [WrittenShape],
 ) -> Result<Tree, ResolveError>
     ensures given { ResolvesTo (λ s. s) result (structure_of line packed (each (typing.expand nesting types.now line) (list_of (parts_of shapes.now)))) }
     ensures laid { IfOk result (λ s. IsLaidOut s) }
@@ -219,7 +219,7 @@ fn expand_all<'t>(
     types: &Types<'t>,
     nesting: u32,
     line: u32,
-    shapes: &'t [Shape],
+    shapes: &'t [WrittenShape],
 ) -> Result<Vec<Tree>, ResolveError>
     ensures given { ResolvesTo (λ v. v.items) result (each (typing.expand nesting types.now line) (list_of (parts_of shapes.now))) }
     ensures laid { IfOk result (λ v. AreLaidOut (forms_of v.items)) }

@@ -8,14 +8,14 @@ ghost use Rattle.ir_names.specs.Types.{entry_in, head_of, shape_at};
 
 use crate::fault::ResolveError;
 use crate::types::TypeNames;
-use ir_read::{Name, Shape, ShapeNode};
+use ir_read::{Name, WrittenShape, WrittenShapeNode};
 use std::alloc::{AllocError, Global};
 use std::marker::Model;
 
 /// The shape that a chain of type names leads to, and how many names it goes on by.
 #[derive(Clone, Copy)]
 pub struct Chain<'t> {
-    pub head: &'t Shape,
+    pub head: &'t WrittenShape,
     pub names: usize,
 }
 
@@ -113,7 +113,7 @@ fn next_chain<'t>(
     match names.shape_at(place) {
         None => Ok(None),
         Some(shape) => match shape.node() {
-            ShapeNode::Named(name) => chain_from(alloc, names, heads, name),
+            WrittenShapeNode::Named(name) => chain_from(alloc, names, heads, name),
             _ => Ok(Some(Chain {
                 head: shape,
                 names: 0,
@@ -149,7 +149,7 @@ fn next_place<'t>(
     match names.shape_at(place) {
         None => Ok(None),
         Some(shape) => match shape.node() {
-            ShapeNode::Named(name) => match names.place_of_name(alloc, name) {
+            WrittenShapeNode::Named(name) => match names.place_of_name(alloc, name) {
                 Ok(next) => Ok(next),
                 Err(_) => Err(AllocError),
             },
@@ -232,7 +232,7 @@ impl<'t> Types<'t> {
 
     /// The shape that the chain of names from a name on leads to.
     #[tactic(auto, unfolding(crate::specs::Types::head_of), using(crate::proofs::Chains::found))]
-    fn head_behind(&self, alloc: Global, name: &Name) -> Result<&'t Shape, ResolveError>
+    fn head_behind(&self, alloc: Global, name: &Name) -> Result<&'t WrittenShape, ResolveError>
         ensures { ResolvesTo (λ s. s.now) result (head_of self.now (named name.now)) }
     {
         let place = self.names.place_in(alloc, name)?;
@@ -246,11 +246,15 @@ impl<'t> Types<'t> {
 
     /// The shape that a shape is, or that the chain of names from it on leads to.
     #[tactic(auto, unfolding(crate::specs::Types::head_of))]
-    pub fn head_of(&self, alloc: Global, shape: &'t Shape) -> Result<&'t Shape, ResolveError>
+    pub fn head_of(
+        &self,
+        alloc: Global,
+        shape: &'t WrittenShape,
+    ) -> Result<&'t WrittenShape, ResolveError>
         ensures { ResolvesTo (λ s. s.now) result (head_of self.now shape.now) }
     {
         match shape.node() {
-            ShapeNode::Named(name) => self.head_behind(alloc, name),
+            WrittenShapeNode::Named(name) => self.head_behind(alloc, name),
             _ => Ok(shape),
         }
     }

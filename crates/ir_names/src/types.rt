@@ -13,14 +13,14 @@ ghost use Rattle.ir_names.specs.Types.{entry_of, entry_in, shape_at, shape_in, h
 use crate::fault::{Fault, NameFault, ResolveError};
 use crate::key::{Key, key_of};
 use indexmap::IndexMap;
-use ir_read::{Name, Shape, ShapeNode, Typed};
+use ir_read::{Name, Typed, WrittenShape, WrittenShapeNode};
 use std::alloc::Global;
 use std::marker::Model;
 
 /// The type names of a module with their shapes, in the order of the text.
 #[derive(Drop)]
 pub struct TypeNames<'t> {
-    map: IndexMap<Key<'t>, Option<&'t Shape>>,
+    map: IndexMap<Key<'t>, Option<&'t WrittenShape>>,
 }
 
 impl<'t> Model for TypeNames<'t> {
@@ -53,7 +53,7 @@ impl<'t> TypeNames<'t> {
         &mut self,
         alloc: Global,
         name: &'t Name,
-        shape: Option<&'t Shape>,
+        shape: Option<&'t WrittenShape>,
     ) -> Result<(), ResolveError>
         ensures { ResolvesTo (λ _. self.new) result (with_type self.old name.now (option_copied shape.entry)) }
     {
@@ -72,7 +72,7 @@ impl<'t> TypeNames<'t> {
         &mut self,
         alloc: Global,
         name: &'t Name,
-        shape: Option<&'t Shape>,
+        shape: Option<&'t WrittenShape>,
     ) -> Result<(), ResolveError>
         ensures { ResolvesTo (λ _. self.new) result (Ok (if is_some (entry_of self.old (key_of name.now)) then self.old else self.old ++ (key_of name.now, option_copied shape.entry) ∷ [])) }
     {
@@ -84,7 +84,7 @@ impl<'t> TypeNames<'t> {
     }
 
     /// One more definition, under a key that isn't there.
-    fn push(&mut self, wanted: Key<'t>, shape: Option<&'t Shape>) -> Result<(), ResolveError>
+    fn push(&mut self, wanted: Key<'t>, shape: Option<&'t WrittenShape>) -> Result<(), ResolveError>
         requires { is_some (entry_of self.old (key wanted)) ≡ false }
         ensures { ResolvesTo (λ _. self.new) result (Ok (self.old ++ (key wanted.entry, option_copied shape.entry) ∷ [])) }
     {
@@ -119,7 +119,7 @@ impl<'t> TypeNames<'t> {
     }
 
     /// What a type name that is used is defined as.
-    pub fn shape_in(&self, alloc: Global, name: &Name) -> Result<&'t Shape, ResolveError>
+    pub fn shape_in(&self, alloc: Global, name: &Name) -> Result<&'t WrittenShape, ResolveError>
         ensures { ResolvesTo (λ s. s.now) result (shape_in self.now name.now) }
     {
         let place = self.place_in(alloc, name)?;
@@ -138,7 +138,7 @@ impl<'t> TypeNames<'t> {
     }
 
     /// What the definition at a place says.
-    pub fn shape_at(&self, place: usize) -> Option<&'t Shape>
+    pub fn shape_at(&self, place: usize) -> Option<&'t WrittenShape>
         ensures { option_copied result ≡ shape_at self.now place }
     {
         match self.map.get_index(place) {
@@ -155,7 +155,7 @@ impl<'t> TypeNames<'t> {
         first: usize,
         first_line: u32,
         most: usize,
-    ) -> Result<&'t Shape, ResolveError>
+    ) -> Result<&'t WrittenShape, ResolveError>
         ensures { ResolvesTo (λ s. s.now) result (chased most self.now first_line (shape_at self.now first)) }
     {
         let mut place = first;
@@ -165,7 +165,7 @@ impl<'t> TypeNames<'t> {
             match self.shape_at(place) {
                 None => return Err(unknown(line)),
                 Some(shape) => match shape.node() {
-                    ShapeNode::Named(name) => {
+                    WrittenShapeNode::Named(name) => {
                         if left == 0 {
                             return Err(unknown(name.line()));
                         }
@@ -181,7 +181,7 @@ impl<'t> TypeNames<'t> {
 }
 
 /// The shape of a type name that isn't opaque.
-pub fn shape_if<'t>(typed: &'t Option<Typed>) -> Option<&'t Shape>
+pub fn shape_if<'t>(typed: &'t Option<Typed>) -> Option<&'t WrittenShape>
     ensures { option_copied result ≡ shape_if typed.now }
 {
     match typed {

@@ -18,8 +18,8 @@ ghost use Rattle.ir_read.specs.Shapes.{array, parts_of, structure};
 use crate::extents::{Align, Extent, Room};
 use ir_lex::{Token, TokenKind};
 use ir_read::{
-    Fault, ReaderError, Shape, TokenFault, Tokens, Typed, decimal, expect, literal, memory_refusal,
-    named, refusal, width,
+    Fault, ReaderError, TokenFault, Tokens, Typed, WrittenShape, decimal, expect, literal,
+    memory_refusal, named, refusal, width,
 };
 use std::alloc::{AllocError, Global};
 
@@ -40,7 +40,7 @@ fn scalar_of(t: &Token) -> Measured
     if t.kind.is(TokenKind::Ptr) {
         Measured {
             typed: Typed {
-                shape: Shape::ptr(),
+                shape: WrittenShape::ptr(),
                 line,
             },
             extent: Extent::scalar(Align::Eight),
@@ -49,7 +49,7 @@ fn scalar_of(t: &Token) -> Measured
         let width = width(t);
         Measured {
             typed: Typed {
-                shape: Shape::int(width),
+                shape: WrittenShape::int(width),
                 line,
             },
             extent: Extent::scalar(Align::of_width(width)),
@@ -82,7 +82,7 @@ fn leaf_means(
             None => Ok(Err(TokenFault::Number)),
             Some(name) => Ok(Ok(Measured {
                 typed: Typed {
-                    shape: Shape::named(name),
+                    shape: WrittenShape::named(name),
                     line: t.line,
                 },
                 extent: Extent::no_bytes(),
@@ -237,14 +237,14 @@ pub fn brace_behind_angle_at(tokens: &mut Tokens) -> Result<(), ReaderError>
 /// The members of a structure, and their extent without the padding behind them.
 #[derive(Drop)]
 struct Members {
-    shapes: Vec<Shape>,
+    shapes: Vec<WrittenShape>,
     extent: Extent,
 }
 
 /// A member of a structure, and the extent of the members up to it.
 #[derive(Drop)]
 struct Member {
-    shape: Shape,
+    shape: WrittenShape,
     extent: Extent,
 }
 
@@ -275,7 +275,7 @@ fn closed_array_at(
 {
     expect(TokenKind::CloseBracket, tokens)?;
     let extent = element.extent.repeated(count);
-    let shape = Shape::array(alloc, count, element.typed.shape)?;
+    let shape = WrittenShape::array(alloc, count, element.typed.shape)?;
     Ok(Measured {
         typed: Typed { shape, line },
         extent,
@@ -292,7 +292,7 @@ fn structure_of(packed: bool, line: u32, members: Members) -> Measured
 {
     Measured {
         typed: Typed {
-            shape: Shape::structure(packed, members.shapes),
+            shape: WrittenShape::structure(packed, members.shapes),
             line,
         },
         extent: members.extent.padded(),

@@ -2,9 +2,9 @@
 use Rattle.std.specs.Prelude.{◌+◌, ◌≤◌, max, List, [], ◌∷◌}
 use Rattle.std.proofs.Common.{arith}
 use denote.Param.Weighed.{most}
-use Rattle.ir_read.specs.declared.shape.ShapeNode.{ShapeNode}
-use Rattle.ir_read.specs.declared.shape.ShapeNode.TheVariants.{Int, Ptr, Array, Struct, Named}
-use Rattle.ir_read.specs.declared.shape.Shape.TheDeep.{deep-ShapeNode}
+use Rattle.ir_read.specs.declared.shape.WrittenShapeNode.{WrittenShapeNode}
+use Rattle.ir_read.specs.declared.shape.WrittenShapeNode.TheVariants.{Int, Ptr, Array, Struct, Named}
+use Rattle.ir_read.specs.declared.shape.WrittenShape.TheDeep.{deep-WrittenShapeNode}
 use Rattle.ir_read.specs.Shapes.{Written, parts_of}
 use Rattle.ir_read.specs.ShapeSizes.{nodes, all_nodes}
 use Rattle.ir_read.specs.ShapeViews.{written_of}
@@ -13,7 +13,7 @@ pub most_le-all_nodes : (parts : List Written) → most (λ k. nodes k + 1) part
 most_le-all_nodes [] = omega arith
 most_le-all_nodes (k ∷ ks) = omega (arith, most_le-all_nodes ks)
 
-pub depth_le-nodes : (node : ShapeNode) → max (deep-ShapeNode node) 0 ≤ nodes (written_of node)
+pub depth_le-nodes : (node : WrittenShapeNode) → max (deep-WrittenShapeNode node) 0 ≤ nodes (written_of node)
 depth_le-nodes (Int w) = omega arith
 depth_le-nodes Ptr = omega arith
 depth_le-nodes (Array count of) = omega arith

@@ -1,9 +1,9 @@
 -- The shape of a node whose parts' shapes are given.
-use Rattle.ir_read.specs.declared.shape.ShapeNode.{ShapeNode}
-use Rattle.ir_read.specs.declared.shape.ShapeNode.TheVariants.{Int, Ptr, Array, Struct, Named}
+use Rattle.ir_read.specs.declared.shape.WrittenShapeNode.{WrittenShapeNode}
+use Rattle.ir_read.specs.declared.shape.WrittenShapeNode.TheVariants.{Int, Ptr, Array, Struct, Named}
 use Rattle.ir_read.specs.Shapes.{Written, int, pointer, array, structure, named, parts_of}
 
-abbrev pub written_of : ShapeNode → Written
+abbrev pub written_of : WrittenShapeNode → Written
 written_of (Int w) = int w
 written_of Ptr = pointer
 written_of (Array count of) = array count of.value

@@ -57,6 +57,6 @@ pub use raw::{
     Argument, Block, Case, FunctionHeader, Incoming, Init, InitHead, InitPart, Instr, Item,
     Operand, Param, Terminator, Variable, WrittenLine,
 };
-pub use shape::{Shape, ShapeNode, Typed};
+pub use shape::{Typed, WrittenShape, WrittenShapeNode};
 pub use terminals::{expect, refusal};
 pub use tokens::Tokens;

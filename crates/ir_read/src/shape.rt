@@ -13,26 +13,26 @@ use std::marker::Model;
 /// A reader makes none that nests deeper than 32 arrays and structures.
 #[cycle(shape)]
 #[derive(Drop)]
-pub struct Shape {
-    node: ShapeNode,
+pub struct WrittenShape {
+    node: WrittenShapeNode,
 }
 
 /// What a shape is, with its parts as they are kept.
 #[cycle(shape)]
 #[derive(Drop)]
-pub enum ShapeNode {
+pub enum WrittenShapeNode {
     /// An integer of so many bits.
     Int(u8),
     Ptr,
     /// A count of elements of a shape.
-    Array(u64, Box<Shape>),
+    Array(u64, Box<WrittenShape>),
     /// A structure, whether it is packed, and its members.
-    Struct(bool, Vec<Shape>),
+    Struct(bool, Vec<WrittenShape>),
     /// The shape that a type name stands for.
     Named(Name),
 }
 
-impl Model for Shape {
+impl Model for WrittenShape {
     ghost use Rattle.ir_read.specs.Shapes.{Written};
     ghost use Rattle.ir_read.specs.ShapeCode.{code_from};
     ghost use Rattle.std.specs.Coded.{codes};
@@ -56,59 +56,59 @@ impl Model for Shape {
 /// A shape, and the line of its first token.
 #[derive(Drop)]
 pub struct Typed {
-    pub shape: Shape,
+    pub shape: WrittenShape,
     pub line: u32,
 }
 
-impl Shape {
+impl WrittenShape {
     /// An integer of `width` bits.
-    pub fn int(width: u8) -> Shape
+    pub fn int(width: u8) -> WrittenShape
         ensures { result ≡ int width }
     {
-        Shape {
-            node: ShapeNode::Int(width),
+        WrittenShape {
+            node: WrittenShapeNode::Int(width),
         }
     }
 
     /// A pointer.
-    pub fn ptr() -> Shape
+    pub fn ptr() -> WrittenShape
         ensures { result ≡ pointer }
     {
-        Shape {
-            node: ShapeNode::Ptr,
+        WrittenShape {
+            node: WrittenShapeNode::Ptr,
         }
     }
 
     /// `[count x of]`.
-    pub fn array(alloc: Global, count: u64, of: Shape) -> Result<Shape, AllocError>
+    pub fn array(alloc: Global, count: u64, of: WrittenShape) -> Result<WrittenShape, AllocError>
         ensures { IfOk result (λ shape. shape ≡ array count of) }
     {
         let of = Box::new(alloc, of)?;
-        Ok(Shape {
-            node: ShapeNode::Array(count, of),
+        Ok(WrittenShape {
+            node: WrittenShapeNode::Array(count, of),
         })
     }
 
     /// `{ parts }`, or `<{ parts }>` where it is packed.
-    pub fn structure(packed: bool, parts: Vec<Shape>) -> Shape
+    pub fn structure(packed: bool, parts: Vec<WrittenShape>) -> WrittenShape
         ensures { result ≡ structure packed (parts_of parts.items) }
     {
-        Shape {
-            node: ShapeNode::Struct(packed, parts),
+        WrittenShape {
+            node: WrittenShapeNode::Struct(packed, parts),
         }
     }
 
     /// The shape that a type name stands for.
-    pub fn named(name: Name) -> Shape
+    pub fn named(name: Name) -> WrittenShape
         ensures { result ≡ named name }
     {
-        Shape {
-            node: ShapeNode::Named(name),
+        WrittenShape {
+            node: WrittenShapeNode::Named(name),
         }
     }
 
     /// What the shape is.
-    pub fn node(&self) -> &ShapeNode
+    pub fn node(&self) -> &WrittenShapeNode
         ensures { self.now ≡ written_of result.now }
     {
         &self.node

@@ -4,25 +4,25 @@ ghost use Rattle.ir_read.specs.Shapes.{parts_of};
 ghost use Rattle.ir_names.specs.Marks as marked;
 
 use crate::mark::{Mark, Marks};
-use ir_read::{Level, Shape, ShapeNode, Typed};
+use ir_read::{Level, Typed, WrittenShape, WrittenShapeNode};
 use std::alloc::AllocError;
 
 /// The type names in a shape. Shapes nest at most 32 deep, and so does this call.
 #[cycle(shapes)]
-pub fn uses<'t>(shape: &'t Shape, marks: &mut Marks<'t>) -> Result<(), AllocError>
+pub fn uses<'t>(shape: &'t WrittenShape, marks: &mut Marks<'t>) -> Result<(), AllocError>
     ensures { OnOk result (marks.new ≡ marks.old ++ marked.uses shape.now) }
 {
     match shape.node() {
-        ShapeNode::Int(_) | ShapeNode::Ptr => Ok(()),
-        ShapeNode::Array(_, of) => uses(of, marks),
-        ShapeNode::Struct(_, parts) => all_uses(parts, marks),
-        ShapeNode::Named(name) => marks.push(Mark::TypeUse(name)),
+        WrittenShapeNode::Int(_) | WrittenShapeNode::Ptr => Ok(()),
+        WrittenShapeNode::Array(_, of) => uses(of, marks),
+        WrittenShapeNode::Struct(_, parts) => all_uses(parts, marks),
+        WrittenShapeNode::Named(name) => marks.push(Mark::TypeUse(name)),
     }
 }
 
 /// The type names in the members of a structure.
 #[cycle(shapes)]
-fn all_uses<'t>(parts: &'t [Shape], marks: &mut Marks<'t>) -> Result<(), AllocError>
+fn all_uses<'t>(parts: &'t [WrittenShape], marks: &mut Marks<'t>) -> Result<(), AllocError>
     ensures { OnOk result (marks.new ≡ marks.old ++ marked.all_uses (parts_of parts.now)) }
 {
     'each: for part in parts {

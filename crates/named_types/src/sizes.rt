@@ -10,7 +10,7 @@ ghost use Rattle.named_types.specs.Measures.{IsMeasured, IsKnownIf, IsSmall, IsS
 use crate::measure::{Measure, array_of};
 use crate::weigh::{Known, known_at, weigh};
 use ir_names::{NameFault, ResolveError, TypeNames, Types, allocated, expanded, limit};
-use ir_read::{Name, Shape, ShapeNode, Typed};
+use ir_read::{Name, Typed, WrittenShape, WrittenShapeNode};
 use std::alloc::{AllocError, Global};
 use std::marker::Model;
 
@@ -46,7 +46,7 @@ fn measured<'t>(
     alloc: Global,
     names: &TypeNames<'t>,
     known: &[Option<Known>],
-    shape: &Shape,
+    shape: &WrittenShape,
 ) -> Result<Option<Option<Measure>>, AllocError>
     requires known { AreKnown names.now known.now }
     requires small { AreKnownSmall known.now }
@@ -64,11 +64,11 @@ fn measured<'t>(
 }
 
 /// The name that a shape is, where it is one.
-fn name_of<'t>(shape: &'t Shape) -> Option<&'t Name>
+fn name_of<'t>(shape: &'t WrittenShape) -> Option<&'t Name>
     ensures { MatchesName result shape.now }
 {
     match shape.node() {
-        ShapeNode::Named(name) => Some(name),
+        WrittenShapeNode::Named(name) => Some(name),
         _ => None,
     }
 }
@@ -78,7 +78,7 @@ fn own_shape<'t>(
     alloc: Global,
     names: &TypeNames<'t>,
     known: &[Option<Known>],
-    shape: &Shape,
+    shape: &WrittenShape,
 ) -> Result<Option<Known>, AllocError>
     requires known { AreKnown names.now known.now }
     requires small { AreKnownSmall known.now }
@@ -214,7 +214,11 @@ impl<'s, 't> Sizes<'s, 't> {
     }
 
     /// The measure of a shape, where it is known: `None` within for one that is past a limit.
-    fn measured(&self, alloc: Global, shape: &Shape) -> Result<Option<Option<Measure>>, AllocError>
+    fn measured(
+        &self,
+        alloc: Global,
+        shape: &WrittenShape,
+    ) -> Result<Option<Option<Measure>>, AllocError>
         ensures given { IfOk result (λ o. IfSome o (λ m. IsMeasured self.now shape.now m)) }
         ensures small { IfOk result (λ o. IfSome o (λ m. IsSmallIf m)) }
     {

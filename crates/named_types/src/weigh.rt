@@ -8,7 +8,7 @@ ghost use Rattle.named_types.specs.Measures.{IsSmall, AreSmall, IsSmallIf, IsKno
 
 use crate::measure::{Measure, array_of, scalar, structure_of};
 use ir_names::{ResolveError, TypeNames, limit, unknown};
-use ir_read::{Name, Shape, ShapeNode};
+use ir_read::{Name, WrittenShape, WrittenShapeNode};
 use std::alloc::Global;
 
 /// How many names the definition of a type name goes on by, and the measure of the shape that it leads
@@ -62,28 +62,28 @@ pub fn weigh<'t>(
     names: &TypeNames<'t>,
     known: &[Option<Known>],
     line: u32,
-    shape: &Shape,
+    shape: &WrittenShape,
 ) -> Result<Measure, ResolveError>
     requires { AreKnownSmall known.now }
     ensures given { ResolvesTo (λ m. m) result (measures.weigh names.now known.now line shape.now) }
     ensures small { IfOk result (λ m. IsSmall m) }
 {
     match shape.node() {
-        ShapeNode::Int(width) => scalar(line, *width),
-        ShapeNode::Ptr => Ok(Measure {
+        WrittenShapeNode::Int(width) => scalar(line, *width),
+        WrittenShapeNode::Ptr => Ok(Measure {
             size: 8,
             align: 8,
             levels: 0,
         }),
-        ShapeNode::Array(count, of) => {
+        WrittenShapeNode::Array(count, of) => {
             let of = weigh(alloc, names, known, line, of)?;
             array_of(line, *count, of)
         }
-        ShapeNode::Struct(packed, parts) => {
+        WrittenShapeNode::Struct(packed, parts) => {
             let parts = weigh_all(alloc, names, known, line, parts)?;
             structure_of(line, *packed, parts.as_slice())
         }
-        ShapeNode::Named(name) => weigh_name(alloc, names, known, line, name),
+        WrittenShapeNode::Named(name) => weigh_name(alloc, names, known, line, name),
     }
 }
 
@@ -94,7 +94,7 @@ fn weigh_all<'t>(
     names: &TypeNames<'t>,
     known: &[Option<Known>],
     line: u32,
-    shapes: &[Shape],
+    shapes: &[WrittenShape],
 ) -> Result<Vec<Measure>, ResolveError>
     requires { AreKnownSmall known.now }
     ensures given { ResolvesTo (λ v. v.items) result (each (measures.weigh names.now known.now line) shapes.now) }
