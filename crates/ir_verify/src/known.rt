@@ -25,7 +25,7 @@ pub fn learned(alloc: Global, function: &Function) -> Result<Known, AllocError>
     let locals = definitions(alloc, function)?;
     let places = places(alloc, function.blocks.as_slice())?;
     let preds = preds(alloc, function)?;
-    let dominators = Dominators::of(alloc, function)?;
+    let dominators = Dominators::over(alloc, &preds)?;
     Ok(Known {
         locals,
         places,
