@@ -1,8 +1,9 @@
 //! The order of the passes.
-ghost use Rattle.std.specs.Prelude.{◌≡◌, IfOk};
+ghost use Rattle.std.specs.Prelude.{◌≡◌, ◌||◌, false, IfOk};
 ghost use Rattle.ir_tree.specs.Rules.{Sound};
 ghost use Rattle.ir_tree.specs.declared.function.Function.{Function};
 ghost use Rattle.ir_edit.specs.Numbered.{in_text_order};
+ghost use Rattle.ir_flow.specs.OfFunction.{IsReach};
 ghost use Rattle.block_trim.specs.Merged.{IsMergeOf};
 ghost use Rattle.block_trim.specs.Trimmed.{IsTrimOf};
 ghost use Rattle.branch_simplify.specs.Simplified.{simplified};
@@ -22,90 +23,143 @@ use branch_simplify::into_simplified;
 use dead_code::into_needed;
 use ir_edit::renumber;
 use ir_facts::into_applied;
+use ir_flow::reachable;
 use ir_tree::{Duplicate, Function};
+use lto_sets::Bits;
 use slot_promote::into_promoted;
 use std::alloc::{AllocError, Global};
 
-// Each pass takes the function that the one before gave, and gives it on where it has nothing to do in it.
+// Each pass takes the function that the one before gave, and gives it on where it has nothing to do in it. It tells whether
+// it did anything, so that no turn or walk is made behind one that changed nothing.
 
-/// The end of a turn: blocks joined, and then what nobody needs gone.
-fn turn_from_merge(alloc: Global, f: Function) -> Result<Function, AllocError>
-    requires sound { Sound f }
-    ensures { IfOk result (λ g. (merged : Function) × IsMergeOf f merged × IsNeededOf merged g) }
+/// Whether one of two steps may have changed the function.
+fn either(first: bool, second: bool) -> bool
+    ensures { result ≡ (first || second) }
 {
-    let merged = into_merged(alloc, f)?;
-    let g = into_needed(alloc, merged)?;
-    Ok(g)
+    first || second
 }
 
-/// A turn from where blocks that aren't reached go.
-fn turn_from_trim(alloc: Global, f: Function) -> Result<Function, AllocError>
+/// The end of a turn: blocks joined, and then what nobody needs gone; and whether that may have changed the function.
+fn turn_from_merge(alloc: Global, f: Function) -> Result<(Function, bool), AllocError>
     requires sound { Sound f }
-    ensures { IfOk result (λ g. (trimmed merged : Function) × IsTrimOf f trimmed × IsMergeOf trimmed merged × IsNeededOf merged g) }
+    ensures made { IfOk result (λ made. (merged : Function) × IsMergeOf f merged × IsNeededOf merged made.0) }
+    ensures same { IfOk result (λ made. made.1 ≡ false → made.0 ≡ f) }
 {
-    let trimmed = into_trimmed(alloc, f)?;
-    turn_from_merge(alloc, trimmed)
+    let (merged, joined) = into_merged(alloc, f)?;
+    let (g, swept) = into_needed(alloc, merged)?;
+    Ok((g, either(joined, swept)))
 }
 
-/// A turn from where decided branches become jumps.
-fn turn_from_branches(alloc: Global, f: Function) -> Result<Function, AllocError>
+/// A turn from where blocks that aren't reached go, where these are reached.
+fn turn_from_trim(
+    alloc: Global,
+    f: Function,
+    reached: &Bits,
+) -> Result<(Function, bool), AllocError>
     requires sound { Sound f }
-    ensures { IfOk result (λ g. (trimmed merged : Function) × IsTrimOf (simplified f) trimmed × IsMergeOf trimmed merged × IsNeededOf merged g) }
+    requires reach { IsReach f reached.now }
+    ensures made { IfOk result (λ made. (trimmed merged : Function) × IsTrimOf f trimmed × IsMergeOf trimmed merged × IsNeededOf merged made.0) }
+    ensures same { IfOk result (λ made. made.1 ≡ false → made.0 ≡ f) }
 {
-    let simplified = into_simplified(alloc, f)?;
-    turn_from_trim(alloc, simplified)
+    let (trimmed, cut) = into_trimmed(alloc, f, reached)?;
+    let (g, changed) = turn_from_merge(alloc, trimmed)?;
+    Ok((g, either(cut, changed)))
+}
+
+/// The blocks that are reached: those that were, unless branches were decided.
+fn reached_now(alloc: Global, f: &Function, before: Bits, decided: bool) -> Result<Bits, AllocError>
+    requires { decided ≡ false → IsReach f.now before }
+    ensures { IfOk result (IsReach f.now) }
+{
+    if decided {
+        return reachable(alloc, f);
+    }
+    Ok(before)
+}
+
+/// A turn from where decided branches become jumps, where these blocks are reached before that.
+fn turn_from_branches(
+    alloc: Global,
+    f: Function,
+    before: Bits,
+) -> Result<(Function, bool), AllocError>
+    requires sound { Sound f }
+    requires reach { IsReach f before }
+    ensures made { IfOk result (λ made. (trimmed merged : Function) × IsTrimOf (simplified f) trimmed × IsMergeOf trimmed merged × IsNeededOf merged made.0) }
+    ensures same { IfOk result (λ made. made.1 ≡ false → made.0 ≡ f) }
+{
+    let (simplified, decided) = into_simplified(alloc, f)?;
+    let reached = reached_now(alloc, &simplified, before, decided)?;
+    let (g, changed) = turn_from_trim(alloc, simplified, &reached)?;
+    Ok((g, either(decided, changed)))
 }
 
 /// Copies and constants propagated, decided branches as jumps, what isn't reached gone, blocks joined, and then what
-/// nobody needs gone.
-fn turn(alloc: Global, f: Function) -> Result<Function, AllocError>
+/// nobody needs gone; and whether that may have changed the function.
+fn turn(alloc: Global, f: Function) -> Result<(Function, bool), AllocError>
     requires sound { Sound f }
-    ensures made { IfOk result (λ g. IsTurn f g) }
-    ensures sound { IfOk result (λ g. Sound g) }
+    ensures made { IfOk result (λ made. IsTurn f made.0) }
+    ensures sound { IfOk result (λ made. Sound made.0) }
+    ensures same { IfOk result (λ made. made.1 ≡ false → made.0 ≡ f) }
 {
     turn_is_better();
-    let propagated = into_applied(alloc, f)?;
-    turn_from_branches(alloc, propagated)
+    let reached = reachable(alloc, &f)?;
+    let (propagated, replaced) = into_applied(alloc, f, &reached)?;
+    let (g, changed) = turn_from_branches(alloc, propagated, reached)?;
+    Ok((g, either(replaced, changed)))
 }
 
-/// Two turns.
+/// Two turns, of which the second is left out where the first changes nothing.
 fn two_turns(alloc: Global, f: Function) -> Result<Function, AllocError>
     requires sound { Sound f }
     ensures { IfOk result (λ g. AreTurns 2 f g) }
 {
-    let once = turn(alloc, f)?;
-    let g = turn(alloc, once)?;
+    let (once, changed) = turn(alloc, f)?;
+    if !changed {
+        return Ok(once);
+    }
+    let (g, _) = turn(alloc, once)?;
     Ok(g)
 }
 
-/// Three turns.
+/// Three turns, of which those are left out that stand behind one that changes nothing.
 fn turns(alloc: Global, f: Function) -> Result<Function, AllocError>
     requires sound { Sound f }
     ensures { IfOk result (λ g. AreTurns 3 f g) }
 {
-    let once = turn(alloc, f)?;
+    let (once, changed) = turn(alloc, f)?;
+    if !changed {
+        return Ok(once);
+    }
     two_turns(alloc, once)
 }
 
-/// Two walks.
+/// Two walks, of which the second is left out where the first changes nothing.
 fn two_walks(alloc: Global, bodies: &Bodies<'_>, f: Function) -> Result<Function, AllocError>
     requires sound { Sound f }
     requires bodies { AreSound (bodies_in bodies.now) }
     ensures walks { IfOk result (λ g. AreWalks 2 (bodies_in bodies.now) f g) }
     ensures sound { IfOk result (λ g. Sound g) }
 {
-    let once = into_walked(alloc, bodies, f)?;
-    into_walked(alloc, bodies, once)
+    let (once, changed) = into_walked(alloc, bodies, f)?;
+    if !changed {
+        return Ok(once);
+    }
+    let (g, _) = into_walked(alloc, bodies, once)?;
+    Ok(g)
 }
 
-/// Three walks.
+/// Three walks, of which those are left out that stand behind one that changes nothing.
 fn walks(alloc: Global, bodies: &Bodies<'_>, f: Function) -> Result<Function, AllocError>
     requires sound { Sound f }
     requires bodies { AreSound (bodies_in bodies.now) }
     ensures walks { IfOk result (λ g. AreWalks 3 (bodies_in bodies.now) f g) }
     ensures sound { IfOk result (λ g. Sound g) }
 {
-    let once = into_walked(alloc, bodies, f)?;
+    let (once, changed) = into_walked(alloc, bodies, f)?;
+    if !changed {
+        return Ok(once);
+    }
     two_walks(alloc, bodies, once)
 }
 

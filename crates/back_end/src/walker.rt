@@ -1,5 +1,5 @@
 //! The inline walk.
-ghost use Rattle.std.specs.Prelude.{◌≡◌, ◌≢◌, ◌+◌, [], ◌∷◌, List, IfOk, IfSome, OnOk, Option, length, ℕ};
+ghost use Rattle.std.specs.Prelude.{◌≡◌, ◌≢◌, ◌+◌, false, [], ◌∷◌, List, IfOk, IfSome, OnOk, Option, length, ℕ};
 ghost use Rattle.ir_tree.specs.Rules.{Sound};
 ghost use Rattle.ir_tree.specs.declared.block.Block.{Block};
 ghost use Rattle.ir_tree.specs.declared.block.Terminator.{Terminator};
@@ -169,22 +169,24 @@ pub fn walk(alloc: Global, bodies: &Bodies<'_>, f: &Function) -> Result<Function
     Ok(g)
 }
 
-/// The walk over a sound function that is given up: the function itself where no call takes a body.
+/// The walk over a sound function that is given up, and whether that may be another one: where no call takes a body it is the
+/// function itself.
 pub(crate) fn into_walked(
     alloc: Global,
     bodies: &Bodies<'_>,
     f: Function,
-) -> Result<Function, AllocError>
+) -> Result<(Function, bool), AllocError>
     requires sound { Sound f }
     requires bodies { AreSound (bodies_in bodies.now) }
-    ensures walk { IfOk result (λ g. IsWalk (bodies_in bodies.now) f g) }
-    ensures sound { IfOk result (λ g. Sound g) }
+    ensures walk { IfOk result (λ walked. IsWalk (bodies_in bodies.now) f walked.0) }
+    ensures sound { IfOk result (λ walked. Sound walked.0) }
+    ensures same { IfOk result (λ walked. walked.1 ≡ false → walked.0 ≡ f) }
 {
     let count = count_of(f.blocks.as_slice())?;
     let taken = any_taken(bodies, &f.symbol, count, f.blocks.as_slice());
     if !taken {
-        return Ok(f);
+        return Ok((f, false));
     }
     let g = walk(alloc, bodies, &f)?;
-    Ok(g)
+    Ok((g, true))
 }

@@ -1,5 +1,5 @@
 //! The pass.
-ghost use Rattle.std.specs.Prelude.{◌≡◌, ◌-◌, ◌^◌, ℕ, nat_eq, length, IfOk};
+ghost use Rattle.std.specs.Prelude.{◌≡◌, ◌-◌, ◌^◌, ℕ, false, nat_eq, length, IfOk};
 ghost use Rattle.std.specs.HashSet.{contains};
 ghost use Rattle.ir_tree.specs.Formed.{Distinct, numbers};
 ghost use Rattle.ir_tree.specs.Rules.{Sound};
@@ -55,18 +55,20 @@ pub fn merge(alloc: Global, f: &Function) -> Result<Function, AllocError>
     Ok(g)
 }
 
-/// What [`merge`] makes of a function that is given up: the function itself where no block takes another one.
+/// What [`merge`] makes of a function that is given up, and whether that may be another one: where no block takes another
+/// one it is the function itself.
 ///
 /// Refused as [`merge`] is.
-pub fn into_merged(alloc: Global, f: Function) -> Result<Function, AllocError>
-    ensures merged { IfOk result (λ g. Distinct (numbers f) → IsMergeOf f g) }
-    ensures sound { IfOk result (λ g. Sound f → Sound g) }
+pub fn into_merged(alloc: Global, f: Function) -> Result<(Function, bool), AllocError>
+    ensures merged { IfOk result (λ made. Distinct (numbers f) → IsMergeOf f made.0) }
+    ensures sound { IfOk result (λ made. Sound f → Sound made.0) }
+    ensures same { IfOk result (λ made. made.1 ≡ false → made.0 ≡ f) }
 {
     let candidates = candidates(alloc, &f)?;
     let stay = all_stay(&candidates, f.blocks.as_slice());
     if stay {
-        return Ok(f);
+        return Ok((f, false));
     }
     let g = merged(alloc, &f, candidates)?;
-    Ok(g)
+    Ok((g, true))
 }

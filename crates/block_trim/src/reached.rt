@@ -2,10 +2,10 @@
 ghost use Rattle.std.specs.Prelude.{◌≡◌, ◌&&◌, ◌||◌, ℕ, nat_eq, length, IfOk, OnOk};
 ghost use Rattle.std.specs.HashSet as hash;
 ghost use Rattle.lto_sets.specs.Sets.{contains};
+ghost use Rattle.ir_flow.specs.OfFunction.{IsReach};
 ghost use Rattle.block_trim.specs.Places.{stands};
 ghost use Rattle.block_trim.specs.Trimmed.{AreReached};
 
-use ir_flow::reachable;
 use ir_tree::{Block, Function};
 use lto_sets::Bits;
 use std::alloc::{AllocError, Global};
@@ -38,11 +38,15 @@ fn numbers_at(alloc: Global, places: &Bits, blocks: &[Block]) -> Result<HashSet<
     Ok(numbers)
 }
 
-/// The numbers of the blocks to which a path leads from the entry.
-pub(crate) fn reached_numbers(alloc: Global, f: &Function) -> Result<HashSet<u32>, AllocError>
+/// The numbers of the blocks that are reached, where these are their places.
+pub(crate) fn reached_numbers(
+    alloc: Global,
+    f: &Function,
+    places: &Bits,
+) -> Result<HashSet<u32>, AllocError>
+    requires { IsReach f.now places.now }
     ensures { IfOk result (λ s. AreReached f.now (hash.contains nat_eq s)) }
 {
-    let places = reachable(alloc, f)?;
-    let numbers = numbers_at(alloc, &places, f.blocks.as_slice())?;
+    let numbers = numbers_at(alloc, places, f.blocks.as_slice())?;
     Ok(numbers)
 }

@@ -1,15 +1,18 @@
 //! Trimming.
-ghost use Rattle.std.specs.Prelude.{◌≡◌, nat_eq, map, IfOk};
+ghost use Rattle.std.specs.Prelude.{◌≡◌, false, nat_eq, map, IfOk};
 ghost use Rattle.std.specs.HashSet.{contains};
 ghost use Rattle.ir_tree.specs.Rules.{Sound};
 ghost use Rattle.ir_meaning.specs.Near.{BetterThan};
 ghost use Rattle.ir_meaning.specs.Program.{Program};
 ghost use Rattle.ir_meaning.specs.Formed.{IsFormed};
+ghost use Rattle.ir_flow.specs.OfFunction.{IsReach};
 ghost use Rattle.block_trim.specs.Trimmed.{IsTrimOf, block_in, blocks_in, entries_in, phi_in, trimmed};
 
 use crate::reached::reached_numbers;
 use crate::staying::blocks_stay;
+use ir_flow::reachable;
 use ir_tree::{Block, Duplicate, Function, Incoming, Phi, Rows};
+use lto_sets::Bits;
 use std::alloc::{AllocError, Global};
 use std::collections::HashSet;
 
@@ -106,23 +109,29 @@ pub fn trim(alloc: Global, f: &Function) -> Result<Function, AllocError>
     ensures better { IfOk result (λ g. (p : Program) → IsFormed p → BetterThan p 1 g f.now) }
     ensures sound { IfOk result (λ g. Sound f.now → Sound g) }
 {
-    let reached = reached_numbers(alloc, f)?;
+    let places = reachable(alloc, f)?;
+    let reached = reached_numbers(alloc, f, &places)?;
     let g = trimmed(alloc, &reached, f)?;
     Ok(g)
 }
 
-/// The trim of a function that is given up: the function itself where all its blocks are reached.
-///
-/// Refused as [`trim`] is.
-pub fn into_trimmed(alloc: Global, f: Function) -> Result<Function, AllocError>
-    ensures trimmed { IfOk result (λ g. IsTrimOf f g) }
-    ensures sound { IfOk result (λ g. Sound f → Sound g) }
+/// The trim of a function that is given up, whose caller knows the places of the blocks that are reached, and whether that may
+/// be another one: where all blocks are reached it is the function itself.
+pub fn into_trimmed(
+    alloc: Global,
+    f: Function,
+    places: &Bits,
+) -> Result<(Function, bool), AllocError>
+    requires { IsReach f places.now }
+    ensures trimmed { IfOk result (λ made. IsTrimOf f made.0) }
+    ensures sound { IfOk result (λ made. Sound f → Sound made.0) }
+    ensures same { IfOk result (λ made. made.1 ≡ false → made.0 ≡ f) }
 {
-    let reached = reached_numbers(alloc, &f)?;
+    let reached = reached_numbers(alloc, &f, places)?;
     let all = blocks_stay(&reached, f.blocks.as_slice());
     if all {
-        return Ok(f);
+        return Ok((f, false));
     }
     let g = trimmed(alloc, &reached, &f)?;
-    Ok(g)
+    Ok((g, true))
 }

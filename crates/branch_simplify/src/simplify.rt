@@ -1,5 +1,5 @@
 //! The pass.
-ghost use Rattle.std.specs.Prelude.{◌≡◌, map, IfOk};
+ghost use Rattle.std.specs.Prelude.{◌≡◌, false, map, IfOk};
 ghost use Rattle.ir_tree.specs.Rules.{Sound};
 ghost use Rattle.ir_meaning.specs.Near.{BetterThan};
 ghost use Rattle.ir_meaning.specs.Program.{Program};
@@ -87,15 +87,17 @@ pub fn branches(alloc: Global, f: &Function) -> Result<Function, AllocError>
     Ok(g)
 }
 
-/// What [`branches`] makes of a function that is given up: the function itself where no terminator is decided.
-pub fn into_simplified(alloc: Global, f: Function) -> Result<Function, AllocError>
-    ensures simplified { IfOk result (λ g. g ≡ simplified f) }
-    ensures sound { IfOk result (λ g. Sound f → Sound g) }
+/// What [`branches`] makes of a function that is given up, and whether that may be another one: where no terminator is
+/// decided it is the function itself.
+pub fn into_simplified(alloc: Global, f: Function) -> Result<(Function, bool), AllocError>
+    ensures simplified { IfOk result (λ made. made.0 ≡ simplified f) }
+    ensures sound { IfOk result (λ made. Sound f → Sound made.0) }
+    ensures same { IfOk result (λ made. made.1 ≡ false → made.0 ≡ f) }
 {
     let stays = ends_stay(f.blocks.as_slice());
     if stays {
-        return Ok(f);
+        return Ok((f, false));
     }
     let g = simplified(alloc, &f)?;
-    Ok(g)
+    Ok((g, true))
 }

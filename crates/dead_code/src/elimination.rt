@@ -1,5 +1,5 @@
 //! Dead code elimination.
-ghost use Rattle.std.specs.Prelude.{◌+◌, nat_eq, IfOk};
+ghost use Rattle.std.specs.Prelude.{◌≡◌, ◌+◌, false, nat_eq, IfOk};
 ghost use Rattle.std.specs.HashSet.{contains};
 ghost use Rattle.ir_tree.specs.Rules.{Sound};
 ghost use Rattle.ir_meaning.specs.Near.{BetterThan};
@@ -39,16 +39,18 @@ pub fn needed(alloc: Global, f: &Function) -> Result<Function, AllocError>
     Ok(g)
 }
 
-/// What is needed of a function that is given up: the function itself where that is all of it.
-pub fn into_needed(alloc: Global, f: Function) -> Result<Function, AllocError>
-    ensures needed { IfOk result (λ g. IsNeededOf f g) }
-    ensures sound { IfOk result (λ g. Sound f → Sound g) }
+/// What is needed of a function that is given up, and whether that may be another one: where all of it is needed it is the
+/// function itself.
+pub fn into_needed(alloc: Global, f: Function) -> Result<(Function, bool), AllocError>
+    ensures needed { IfOk result (λ made. IsNeededOf f made.0) }
+    ensures sound { IfOk result (λ made. Sound f → Sound made.0) }
+    ensures same { IfOk result (λ made. made.1 ≡ false → made.0 ≡ f) }
 {
     let kept = kept_in(alloc, &f)?;
     let all = blocks_stay(&kept, f.blocks.as_slice());
     if all {
-        return Ok(f);
+        return Ok((f, false));
     }
     let g = swept(alloc, &kept, &f)?;
-    Ok(g)
+    Ok((g, true))
 }

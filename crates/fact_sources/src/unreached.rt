@@ -3,10 +3,10 @@ ghost use Rattle.std.specs.Prelude.{◌≡◌, ◌++◌, ℕ, if◌then◌else�
 ghost use Rattle.std.specs.HashSet as hash;
 ghost use Rattle.lto_sets.specs.Sets.{contains};
 ghost use Rattle.ir_edit.specs.Numbered.{line_numbers, phi_numbers};
+ghost use Rattle.ir_flow.specs.OfFunction.{IsReach};
 ghost use Rattle.fact_sources.specs.Apart.{IsApart, defined, firm, given_apart, given_where, is_listed, resting};
 
 use crate::naming::is_among;
-use ir_flow::reachable;
 use ir_tree::{Block, Duplicate, Function, Line, Operand, Phi};
 use lto_sets::Bits;
 use std::alloc::{AllocError, Global};
@@ -75,13 +75,13 @@ pub fn defined(alloc: Global, block: &Block) -> Result<HashSet<u32>, AllocError>
     Ok(set)
 }
 
-/// The locals to which blocks that aren't reached give values.
-pub fn apart(alloc: Global, f: &Function) -> Result<HashSet<u32>, AllocError>
+/// The locals to which blocks that aren't reached give values, where these are the blocks that are.
+pub fn apart(alloc: Global, f: &Function, reached: &Bits) -> Result<HashSet<u32>, AllocError>
+    requires { IsReach f.now reached.now }
     ensures { IfOk result (λ set. IsApart f.now (hash.contains nat_eq set)) }
 {
-    let reached = reachable(alloc, f)?;
     let mut locals = Vec::new(alloc);
-    push_apart(&mut locals, &reached, f.blocks.as_slice())?;
+    push_apart(&mut locals, reached, f.blocks.as_slice())?;
     let set = set_of(alloc, &locals)?;
     Ok(set)
 }

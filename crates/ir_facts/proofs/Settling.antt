@@ -146,7 +146,7 @@ module _ (f : Function) where
       let way = all b (subst (λ (n : ℕ). b < n) (length-map f.blocks settled_block) lt) in
       (way.0, path_then way.0 b way.1)
 
-  reach_settled : (s : List Bool) → IsReach f s → IsReach (settled f) s
+  pub reach_settled : (s : List Bool) → IsReach f s → IsReach (settled f) s
   reach_settled s reach = (
     reach.0 ∙ sym (length-map f.blocks settled_block),
     (λ b. (

@@ -1,5 +1,5 @@
 -- A step leaves which blocks are reached, and what the others define.
-use Rattle.std.proofs.Common.{◌≡◌, ◌<◌, ℕ, suc, Bool, true, false, List, [], ◌∷◌, ◌++◌, Option, refl, sym, ◌∙◌, ap, subst}
+use Rattle.std.proofs.Common.{◌≡◌, ◌<◌, ℕ, zero, suc, Bool, true, false, List, [], ◌∷◌, ◌++◌, Option, refl, sym, ◌∙◌, ap, subst}
 use Rattle.lto_sets.specs.Sets.{contains}
 use Rattle.ir_tree.specs.Flow.{Among, Path}
 use Rattle.ir_tree.specs.declared.block.Block.{Block}
@@ -12,9 +12,9 @@ use Rattle.ir_edit.specs.Numbered.{line_numbers, local_number, phi_numbers}
 use Rattle.ir_flow.specs.OfFunction.{IsReach}
 use Rattle.fact_sources.specs.Apart.{IsApart, given_apart, given_where, is_listed}
 use Rattle.fact_sources.specs.Settled.{settled}
-use Rattle.ir_facts.specs.Steps.{IsRound, IsStep, candidate_of, ends_of}
+use Rattle.ir_facts.specs.Steps.{AreRounds, IsRound, IsStep, candidate_of, ends_of}
 use Rattle.ir_facts.proofs.Replaced.{edges_still, length_still}
-use Rattle.ir_facts.proofs.Settling.{apart_settled}
+use Rattle.ir_facts.proofs.Settling.{apart_settled, reach_settled}
 
 module _ (c : ℕ → Option Operand) (starts ends : ℕ → Facts) where
   phis_still : (ps : List Phi) → phi_numbers (phis_replaced ends ps) ≡ phi_numbers ps
@@ -46,7 +46,7 @@ module _ (c : ℕ → Option Operand) (starts ends : ℕ → Facts) where
     path_was [] b path = (path.0, subst (λ (n : ℕ). b < n) (length_still c starts ends f.blocks) path.1)
     path_was (p ∷ ps) b path = (subst (Among p) (edges_still c starts ends f b) path.0, path_was ps p path.1)
 
-    reach_still : (s : List Bool) → IsReach f s → IsReach g s
+    pub reach_still : (s : List Bool) → IsReach f s → IsReach g s
     reach_still s reach = (
       reach.0 ∙ sym (length_still c starts ends f.blocks),
       (λ b. (
@@ -68,3 +68,17 @@ step_apart among c f g step a =
 
 pub round_apart : (among : ℕ → Bool) (f g : Function) → IsRound f g → IsApart f among → IsApart g among
 round_apart among f g round a = step_apart among (candidate_of (settled f)) (settled f) g round (apart_settled f among a)
+
+-- ---- which blocks are reached, by itself
+
+pub step_reach : (s : List Bool) (c : ℕ → Option Operand) (f g : Function) → IsStep c f g → IsReach f s → IsReach g s
+step_reach s c f g step reach =
+    subst (λ (h : Function). IsReach h s) (sym (step.most step.starts step.solution (λ n x v h. h))) (reach_still c step.starts (ends_of c step.starts f) f s reach)
+
+pub round_reach : (s : List Bool) (f g : Function) → IsRound f g → IsReach f s → IsReach g s
+round_reach s f g round reach = step_reach s (candidate_of (settled f)) (settled f) g round (reach_settled f s reach)
+
+pub rounds_reach : (n : ℕ) (s : List Bool) (f g : Function) → AreRounds n f g → IsReach f s → IsReach g s
+unfolding AreRounds
+rounds_reach zero s f g same reach = subst (λ (h : Function). IsReach h s) (sym same) reach
+rounds_reach (suc n) s f g (h, round, more) reach = rounds_reach n s h g more (round_reach s f h round reach)

@@ -5,6 +5,7 @@ ghost use Rattle.ir_tree.specs.Rules.{Sound};
 ghost use Rattle.ir_meaning.specs.Near.{BetterThan};
 ghost use Rattle.ir_meaning.specs.Program.{Program};
 ghost use Rattle.ir_meaning.specs.Formed.{IsFormed};
+ghost use Rattle.ir_flow.specs.OfFunction.{IsReach};
 ghost use Rattle.fact_sources.specs.Apart.{IsApart, resting};
 ghost use Rattle.fact_sources.specs.Substitutions.{IsOf};
 ghost use Rattle.fact_sources.specs.Candidates.{candidates};
@@ -19,7 +20,9 @@ use fact_sources::{
     Substitution, any_choice_in, apart, candidates, firm, function_at, resting, settled,
 };
 use ir_edit::substitute;
+use ir_flow::reachable;
 use ir_tree::{Block, Duplicate, Function, Operand, Rows};
+use lto_sets::Bits;
 use std::alloc::{AllocError, Global};
 use std::collections::HashSet;
 use std::mem::replace;
@@ -133,46 +136,50 @@ fn round(
     }
 }
 
-/// The function after so many rounds. A round that changes nothing is the last, since no later one changes anything.
+/// The function after so many rounds, and whether one has changed it. A round that changes nothing is the last, since no
+/// later one changes anything.
 fn rounds(
     alloc: Global,
     f: Function,
     outside: &HashSet<u32>,
     left: u32,
-) -> Result<Function, AllocError>
+) -> Result<(Function, bool), AllocError>
     requires sound { Sound f }
     requires apart { IsApart f (contains nat_eq outside.now) }
-    ensures { IfOk result (λ g. AreRounds left f g) }
+    ensures made { IfOk result (λ made. AreRounds left f made.0) }
+    ensures same { IfOk result (λ made. made.1 ≡ false → made.0 ≡ f) }
 {
     if left == 0 {
-        return Ok(f);
+        return Ok((f, false));
     }
     let next = round(alloc, &f, outside);
     let (g, changed) = renewed(f, next)?;
-    if changed {
-        rounds(alloc, g, outside, left - 1)
-    } else {
-        Ok(g)
+    if !changed {
+        return Ok((g, false));
     }
+    let (h, _) = rounds(alloc, g, outside, left - 1)?;
+    Ok((h, true))
 }
 
-/// The function with these blocks after so many rounds, where no unreached block gives a local a value: then each candidate
-/// holds wherever its local is used. A block in which nothing is replaced stays as it is. Behind free choices that are to be
-/// settled it goes on by whole functions.
+/// The function with these blocks after so many rounds, and whether one has changed it, where no unreached block gives a
+/// local a value: then each candidate holds wherever its local is used. A block in which nothing is replaced stays as it is.
+/// Behind free choices that are to be settled it goes on by whole functions.
 fn rounds_in_place(
     alloc: Global,
     f: &Function,
     mut blocks: Vec<Block>,
     outside: &HashSet<u32>,
     left: u32,
-) -> Result<Function, AllocError>
+) -> Result<(Function, bool), AllocError>
     requires sound { Sound (with_blocks f.now blocks.items) }
     requires apart { IsApart (with_blocks f.now blocks.items) (contains nat_eq outside.now) }
     requires none { (x : ℕ) → contains nat_eq outside.now x ≡ false }
-    ensures { IfOk result (λ g. AreRounds left (with_blocks f.now blocks.items) g) }
+    ensures made { IfOk result (λ made. AreRounds left (with_blocks f.now blocks.items) made.0) }
+    ensures same { IfOk result (λ made. made.1 ≡ false → made.0 ≡ with_blocks f.now blocks.items) }
 {
     if left == 0 {
-        return with_blocks(alloc, f, blocks);
+        let same = with_blocks(alloc, f, blocks)?;
+        return Ok((same, false));
     }
     let free = any_choice_in(blocks.as_slice());
     if free {
@@ -181,20 +188,30 @@ fn rounds_in_place(
     }
     let changed = forward(alloc, &mut blocks)?;
     if !changed {
-        return with_blocks(alloc, f, blocks);
+        let same = with_blocks(alloc, f, blocks)?;
+        return Ok((same, false));
     }
-    rounds_in_place(alloc, f, blocks, outside, left - 1)
+    let (g, _) = rounds_in_place(alloc, f, blocks, outside, left - 1)?;
+    Ok((g, true))
 }
 
-/// What [`apply`] makes of a function that is given up: the function itself where no round changes anything.
+/// What [`apply`] makes of a function that is given up, and whether that may be another one: where no round changes anything
+/// it is the function itself. Its caller knows which blocks are reached, and they are reached in what is made.
 ///
 /// Refused as [`apply`] is.
-pub fn into_applied(alloc: Global, mut f: Function) -> Result<Function, AllocError>
+pub fn into_applied(
+    alloc: Global,
+    mut f: Function,
+    reached: &Bits,
+) -> Result<(Function, bool), AllocError>
     requires sound { Sound f }
-    ensures made { IfOk result (λ g. IsApplied f g) }
-    ensures sound { IfOk result (λ g. Sound g) }
+    requires reach { IsReach f reached.now }
+    ensures made { IfOk result (λ made. IsApplied f made.0) }
+    ensures sound { IfOk result (λ made. Sound made.0) }
+    ensures reach { IfOk result (λ made. IsReach made.0 reached.now) }
+    ensures same { IfOk result (λ made. made.1 ≡ false → made.0 ≡ f) }
 {
-    let outside = apart(alloc, &f)?;
+    let outside = apart(alloc, &f, reached)?;
     let none = outside.is_empty();
     if none {
         let blocks = replace(&mut f.blocks, Rows::new(alloc)).into_vec();
@@ -222,7 +239,8 @@ pub fn apply(alloc: Global, f: &Function) -> Result<Function, AllocError>
     ensures better { IfOk result (λ g. (p : Program) → IsFormed p → BetterThan p 1 g f.now) }
     ensures sound { IfOk result (λ g. Sound g) }
 {
+    let reached = reachable(alloc, f)?;
     let copy = f.duplicate(alloc)?;
-    let g = into_applied(alloc, copy)?;
+    let (g, _) = into_applied(alloc, copy, &reached)?;
     Ok(g)
 }

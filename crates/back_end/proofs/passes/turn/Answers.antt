@@ -1,11 +1,14 @@
-use Rattle.std.proofs.Common.{IfOk}
-use Rattle.std.proofs.lemmas.Result.{IfOk-weaker}
+use Rattle.std.proofs.Common.{◌∙◌, sym}
 use Rattle.back_end.specs.Made.{IsTurn}
-use Rattle.back_end.proofs.Turning.{turn_of}
+use Rattle.back_end.proofs.Turning.{turn_of, unchanged}
 use Rattle.back_end.proofs.passes.turn.Goals as goal
 
 pub returns : goal.returns
-returns c =
-    let made : IfOk c.turn_from_branches.result (IsTurn c.args.f) =
-    IfOk-weaker c.turn_from_branches.result _ _ (λ g parts. turn_of c.args.f c.in_ok-propagated.propagated g c.in_ok-propagated.ensures.made parts) c.turn_from_branches.ensures in
-    record { made = made; sound = IfOk-weaker c.turn_from_branches.result _ _ (λ g is. (c.turn_is_better.ensures c.args.f g c.requires.sound is).0) made }
+returns c = record {
+  made = made;
+  sound = (c.turn_is_better.ensures c.args.f c.in_ok-g.g c.requires.sound made).0;
+  same = λ neither. unchanged c.in_ok-propagated.replaced c.in_ok-g.changed c.args.f c.in_ok-propagated.propagated c.in_ok-g.g c.in_ok-propagated.ensures.same c.in_ok-g.ensures.same (sym c.either.ensures ∙ neither);
+}
+  where
+    made : IsTurn c.args.f c.in_ok-g.g
+    made = turn_of c.args.f c.in_ok-propagated.propagated c.in_ok-g.g c.in_ok-propagated.ensures.made c.in_ok-g.ensures.made

@@ -1,10 +1,19 @@
-use Rattle.std.proofs.Common.{IfOk, subst}
+use Rattle.std.proofs.Common.{◌∙◌, subst, sym}
 use Rattle.ir_tree.specs.declared.function.Function.{Function}
+use Rattle.ir_flow.specs.OfFunction.{IsReach}
 use Rattle.block_trim.specs.Merged.{IsMergeOf}
 use Rattle.block_trim.specs.Trimmed.{IsTrimOf}
 use Rattle.dead_code.specs.Least.{IsNeededOf}
+use Rattle.back_end.proofs.Turning.{unchanged}
 use Rattle.back_end.proofs.passes.turn_from_branches.Goals as goal
 
+pub reached_now-requires : goal.reached_now-requires
+reached_now-requires c undecided = subst (λ (g : Function). IsReach g c.args.before) (sym (c.in_ok-simplified.ensures.same undecided)) c.requires.reach
+
 pub returns : goal.returns
-returns c =
-    subst (λ (s : Function). IfOk c.turn_from_trim.result (λ g. (trimmed merged : Function) × IsTrimOf s trimmed × IsMergeOf trimmed merged × IsNeededOf merged g)) c.in_ok-simplified.ensures.simplified c.turn_from_trim.ensures
+returns c = record {
+  made =
+      subst (λ (s : Function). (trimmed merged : Function) × IsTrimOf s trimmed × IsMergeOf trimmed merged × IsNeededOf merged c.in_ok-g.g)
+      c.in_ok-simplified.ensures.simplified c.in_ok-g.ensures.made;
+  same = λ neither. unchanged c.in_ok-simplified.decided c.in_ok-g.changed c.args.f c.in_ok-simplified.simplified c.in_ok-g.g c.in_ok-simplified.ensures.same c.in_ok-g.ensures.same (sym c.either.ensures ∙ neither);
+}

@@ -1,10 +1,15 @@
-use Rattle.std.proofs.lemmas.Result.{IfOk-weaker}
 use Rattle.back_end.specs.Walking.{bodies_in}
-use Rattle.back_end.proofs.Turning.{two_walks}
+use Rattle.back_end.proofs.Turning.{idle_walks, two_walks}
 use Rattle.back_end.proofs.passes.two_walks.Goals as goal
+
+pub returns-then-not-changed : goal.returns-then-not-changed
+returns-then-not-changed c = record {
+  walks = idle_walks 1 (bodies_in c.args.bodies.now) c.args.f c.in_ok-once.once (c.in_ok-once.ensures.same c.if-not-changed.true) c.in_ok-once.ensures.walk;
+  sound = c.in_ok-once.ensures.sound;
+}
 
 pub returns : goal.returns
 returns c = record {
-  walks = IfOk-weaker c.into_walked-2.result _ _ (λ g second. two_walks (bodies_in c.args.bodies.now) c.args.f c.in_ok-once.once g c.in_ok-once.ensures.walk second) c.into_walked-2.ensures.walk;
-  sound = c.into_walked-2.ensures.sound;
+  walks = two_walks (bodies_in c.args.bodies.now) c.args.f c.in_ok-once.once c.in_ok-g.g c.in_ok-once.ensures.walk c.in_ok-g.ensures.walk;
+  sound = c.in_ok-g.ensures.sound;
 }

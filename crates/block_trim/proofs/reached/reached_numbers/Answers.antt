@@ -8,5 +8,5 @@ use Rattle.block_trim.proofs.reached.reached_numbers.Goals as goal
 
 pub returns : goal.returns
 returns c =
-    reached_by_places c.args.f.now (contains c.in_ok-places.places) (hash.contains nat_eq c.in_ok-numbers.numbers) c.in_ok-places.ensures.1
-    (λ n. c.in_ok-numbers.ensures n ∙ ap (λ (bs : List Block). stands (contains c.in_ok-places.places) 0 bs n) c.as_slice.ensures)
+    reached_by_places c.args.f.now (contains c.args.places.now) (hash.contains nat_eq c.in_ok-numbers.numbers) c.requires.1
+    (λ n. c.in_ok-numbers.ensures n ∙ ap (λ (bs : List Block). stands (contains c.args.places.now) 0 bs n) c.as_slice.ensures)

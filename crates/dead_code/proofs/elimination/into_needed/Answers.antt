@@ -1,4 +1,5 @@
-use Rattle.std.proofs.Common.{◌∙◌, nat_eq, sym, ap}
+use Rattle.std.proofs.Common.{◌∙◌, nat_eq, refl, sym, ap}
+use Rattle.std.proofs.lemmas.Bool.{false≢true}
 use Rattle.std.specs.HashSet.{contains}
 use Rattle.dead_code.specs.Least.{IsNeededOf}
 use Rattle.dead_code.specs.Staying.{blocks_stay}
@@ -12,10 +13,11 @@ returns-then-all c =
     record {
       needed = (kept, c.in_ok-kept.ensures, all_needed kept c.args.f (ap (blocks_stay kept) (sym c.as_slice.ensures) ∙ sym c.blocks_stay-all.ensures ∙ c.if-all.true));
       sound = λ h. h;
+      same = λ e. refl;
     }
 
 pub returns : goal.returns
-returns c = record { needed = made; sound = λ h. is_sound c.args.f c.in_ok-g.g made h }
+returns c = record { needed = made; sound = λ h. is_sound c.args.f c.in_ok-g.g made h; same = λ e. absurd (false≢true (sym e)) }
   where
     made : IsNeededOf c.args.f c.in_ok-g.g
     made = (contains nat_eq c.in_ok-kept.kept, c.in_ok-kept.ensures, c.in_ok-g.ensures)

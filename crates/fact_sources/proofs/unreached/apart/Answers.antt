@@ -5,15 +5,15 @@ use Rattle.fact_sources.specs.Apart.{given_apart, is_listed}
 use Rattle.fact_sources.proofs.unreached.apart.Goals as goal
 
 pub push_apart-requires : goal.push_apart-requires
-push_apart-requires c = c.in_ok-reached.ensures.0 ∙ ap (λ (bs : List Block). length bs) (sym c.as_slice.ensures)
+push_apart-requires c = c.requires.0 ∙ ap (λ (bs : List Block). length bs) (sym c.as_slice.ensures)
 
 pub returns : goal.returns
 returns c = record {
-  reached = c.in_ok-reached.reached;
-  reach = c.in_ok-reached.ensures;
+  reached = c.args.reached.now;
+  reach = c.requires;
   is = λ x.
       c.in_ok-set.ensures x
       ∙ ap (is_listed x)
       (c.deref.ensures.value ∙ c.in_ok-push_apart.ensures
-      ∙ (λ i. c.new-locals.ensures.items i ++ given_apart (contains c.in_ok-reached.reached) 0 (c.as_slice.ensures i)));
+      ∙ (λ i. c.new-locals.ensures.items i ++ given_apart (contains c.args.reached.now) 0 (c.as_slice.ensures i)));
 }

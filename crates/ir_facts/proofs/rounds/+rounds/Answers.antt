@@ -1,5 +1,6 @@
-use Rattle.std.proofs.Common.{◌-◌, nat_eq, Option, arith, sym, subst}
-use Rattle.std.proofs.lemmas.Result.{IfOk-at_ok, IfOk-weaker}
+use Rattle.std.proofs.Common.{◌-◌, nat_eq, Option, arith, refl, sym, subst}
+use Rattle.std.proofs.lemmas.Bool.{false≢true}
+use Rattle.std.proofs.lemmas.Result.{IfOk-at_ok}
 use Rattle.std.specs.HashSet.{contains}
 use Rattle.ir_tree.specs.declared.function.Function.{Function}
 use Rattle.fact_sources.specs.Settled.{or_same}
@@ -9,13 +10,13 @@ use Rattle.ir_facts.proofs.StillApart.{round_apart}
 use Rattle.ir_facts.proofs.rounds.+rounds.Goals as goal
 
 pub returns-then-left-eq0 : goal.returns-then-left-eq0
-returns-then-left-eq0 t c = no_rounds c.args.left c.args.f c.if-left-eq0.true
+returns-then-left-eq0 t c = record { made = no_rounds c.args.left c.args.f c.if-left-eq0.true; same = λ e. refl }
 
 pub rounds-requires : goal.rounds-requires
 rounds-requires t c =
     let f = c.args.f in
     let g = c.in_ok-g.g in
-    let round = IfOk-at_ok (λ (o : Option Function). IsRound f (or_same f o)) (c.in_ok-g.ensures.new c.if-changed.true) c.round-next.ensures in (
+    let round = IfOk-at_ok (λ (o : Option Function). IsRound f (or_same f o)) (c.in_ok-g.ensures.new c.if-not-changed.false) c.round-next.ensures in (
       omega arith,
       (
         round_sound f g c.requires.sound round,
@@ -23,15 +24,18 @@ rounds-requires t c =
       ),
     )
 
-pub returns-then-changed : goal.returns-then-changed
-returns-then-changed t c =
+pub returns-then-not-changed : goal.returns-then-not-changed
+returns-then-not-changed t c =
+    let f = c.args.f in
+    let last = c.in_ok-g.ensures.same c.if-not-changed.true in
+    record {
+      made = subst (AreRounds c.args.left f) (sym last.1) (last_round c.args.left f (IfOk-at_ok (λ (o : Option Function). IsRound f (or_same f o)) last.0 c.round-next.ensures));
+      same = λ e. last.1;
+    }
+
+pub returns : goal.returns
+returns t c =
     let f = c.args.f in
     let g = c.in_ok-g.g in
-    let round = IfOk-at_ok (λ (o : Option Function). IsRound f (or_same f o)) (c.in_ok-g.ensures.new c.if-changed.true) c.round-next.ensures in
-    IfOk-weaker c.rounds.result (AreRounds (c.args.left - 1) g) (AreRounds c.args.left f) (λ h more. one_more c.args.left f g h (omega arith) round more) c.rounds.ensures
-
-pub returns-else-changed : goal.returns-else-changed
-returns-else-changed t c =
-    let f = c.args.f in
-    let last = c.in_ok-g.ensures.same c.if-changed.false in
-    subst (AreRounds c.args.left f) (sym last.1) (last_round c.args.left f (IfOk-at_ok (λ (o : Option Function). IsRound f (or_same f o)) last.0 c.round-next.ensures))
+    let round = IfOk-at_ok (λ (o : Option Function). IsRound f (or_same f o)) (c.in_ok-g.ensures.new c.if-not-changed.false) c.round-next.ensures in
+    record { made = one_more c.args.left f g c.in_ok-h.h (omega arith) round c.in_ok-h.ensures.made; same = λ e. absurd (false≢true (sym e)) }

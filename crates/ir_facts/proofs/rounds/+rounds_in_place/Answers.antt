@@ -1,6 +1,6 @@
-use Rattle.std.proofs.Common.{◌≡◌, ◌-◌, nat_eq, sym, ◌∙◌, ap, arith, subst}
+use Rattle.std.proofs.Common.{◌≡◌, ◌-◌, false, nat_eq, sym, ◌∙◌, ap, arith, subst}
 use Rattle.std.specs.Result.{IfOk}
-use Rattle.std.proofs.lemmas.Result.{IfOk-weaker}
+use Rattle.std.proofs.lemmas.Bool.{false≢true}
 use Rattle.ir_tree.specs.declared.function.Function.{Function}
 use Rattle.std.specs.HashSet.{contains}
 use Rattle.fact_sources.specs.Askable.{BlocksHaveWidths}
@@ -16,11 +16,16 @@ use Rattle.ir_facts.proofs.rounds.+rounds_in_place.Goals as goal
 pub returns-then-left-eq0 : goal.returns-then-left-eq0
 returns-then-left-eq0 t c =
     let here = with_blocks c.args.f.now c.args.blocks.items in
-    IfOk-weaker c.with_blocks.result (λ (g : Function). g ≡ here) (AreRounds c.args.left here)
-    (λ g e. subst (AreRounds c.args.left here) (sym e) (no_rounds c.args.left here c.if-left-eq0.true)) c.with_blocks.ensures
+    record {
+      made = subst (AreRounds c.args.left here) (sym c.in_ok-same.ensures) (no_rounds c.args.left here c.if-left-eq0.true);
+      same = λ e. c.in_ok-same.ensures;
+    }
 
 pub returns-then-free : goal.returns-then-free
-returns-then-free t c = subst (λ (f : Function). IfOk c.rounds.result (AreRounds c.args.left f)) c.in_ok-whole.ensures c.rounds.ensures
+returns-then-free t c = record {
+  made = subst (λ (f : Function). IfOk c.rounds.result (λ made. AreRounds c.args.left f made.0)) c.in_ok-whole.ensures c.rounds.ensures.made;
+  same = subst (λ (f : Function). IfOk c.rounds.result (λ made. made.1 ≡ false → made.0 ≡ f)) c.in_ok-whole.ensures c.rounds.ensures.same;
+}
 
 pub any_choice_in-free-requires : goal.any_choice_in-free-requires
 any_choice_in-free-requires t c = record {
@@ -36,12 +41,15 @@ returns-then-not-changed t c =
     let firm = ap any_choice_in (sym c.as_slice.ensures.value) ∙ sym c.any_choice_in-free.ensures ∙ c.if-free.false in
     let new = c.forward.new.blocks.items in
     let here = with_blocks c.args.f.now blocks in
-    IfOk-weaker c.with_blocks-then-not-changed.result (λ (g : Function). g ≡ with_blocks c.args.f.now new) (AreRounds c.args.left here)
-    (λ g e.
-    subst (AreRounds c.args.left here) (sym e)
-    (place_last (contains nat_eq c.args.outside.now) c.requires.none c.args.f.now blocks new c.requires.sound c.requires.apart firm c.in_ok-changed.ensures.made
-    c.args.left (c.in_ok-changed.ensures.kept c.if-not-changed.true)))
-    c.with_blocks-then-not-changed.ensures
+    let kept = c.in_ok-changed.ensures.kept c.if-not-changed.true in
+    let made = c.in_ok-same-2.ensures in
+    record {
+      made =
+          subst (AreRounds c.args.left here) (sym made)
+          (place_last (contains nat_eq c.args.outside.now) c.requires.none c.args.f.now blocks new c.requires.sound c.requires.apart firm c.in_ok-changed.ensures.made
+          c.args.left kept);
+      same = λ e. made ∙ ap (with_blocks c.args.f.now) kept;
+    }
 
 pub rounds_in_place-requires : goal.rounds_in_place-requires
 rounds_in_place-requires t c =
@@ -63,5 +71,7 @@ returns t c =
     let new = c.forward.new.blocks.items in
     let firm = ap any_choice_in (sym c.as_slice.ensures.value) ∙ sym c.any_choice_in-free.ensures ∙ c.if-free.false in
     let round = place_round (contains nat_eq c.args.outside.now) c.requires.none c.args.f.now blocks new c.requires.sound c.requires.apart firm c.in_ok-changed.ensures.made in
-    IfOk-weaker c.rounds_in_place.result (AreRounds (c.args.left - 1) (with_blocks c.args.f.now new)) (AreRounds c.args.left (with_blocks c.args.f.now blocks))
-    (λ g more. one_more c.args.left (with_blocks c.args.f.now blocks) (with_blocks c.args.f.now new) g (omega arith) round more) c.rounds_in_place.ensures
+    record {
+      made = one_more c.args.left (with_blocks c.args.f.now blocks) (with_blocks c.args.f.now new) c.in_ok-g.g (omega arith) round c.in_ok-g.ensures.made;
+      same = λ e. absurd (false≢true (sym e));
+    }

@@ -1,4 +1,4 @@
-use Rattle.std.proofs.Common.{ℕ, nat_eq, List, Result, sym, ◌∙◌, ap, subst}
+use Rattle.std.proofs.Common.{◌≡◌, Bool, false, ℕ, nat_eq, List, Result, sym, ◌∙◌, ap, subst}
 use Rattle.std.specs.Result.{IfOk}
 use Rattle.std.specs.declared.alloc.AllocError.{AllocError}
 use Rattle.std.proofs.lemmas.Result.{IfOk-weaker}
@@ -7,16 +7,22 @@ use Rattle.std.specs.HashSet.{contains}
 use Rattle.std.specs.List.{list_any}
 use Rattle.ir_tree.specs.Rules.{Sound}
 use Rattle.ir_tree.specs.declared.block.Block.{Block}
+use Rattle.ir_flow.specs.OfFunction.{IsReach}
 use Rattle.fact_sources.specs.Apart.{IsApart}
 use Rattle.fact_sources.proofs.NoneNamed.{empty_list}
 use Rattle.ir_facts.specs.Blocks.{with_blocks}
 use Rattle.ir_facts.specs.Steps.{AreRounds}
 use Rattle.ir_facts.proofs.InRounds.{are_better}
+use Rattle.ir_facts.proofs.StillApart.{rounds_reach}
 use Rattle.ir_facts.proofs.rounds.into_applied.Goals as goal
 
 -- what rounds make is sound
-still_sound : (f : Function) (r : Result Function AllocError) → Sound f → IfOk r (AreRounds 16 f) → IfOk r Sound
-still_sound f r sound made = IfOk-weaker r (AreRounds 16 f) Sound (λ g all. (are_better 16 f g sound all).0) made
+still_sound : (f : Function) (r : Result (Function × Bool) AllocError) → Sound f → IfOk r (λ made. AreRounds 16 f made.0) → IfOk r (λ made. Sound made.0)
+still_sound f r sound made = IfOk-weaker r (λ both. AreRounds 16 f both.0) (λ both. Sound both.0) (λ both all. (are_better 16 f both.0 sound all).0) made
+
+-- and has the same blocks reached
+still_reached : (f : Function) (s : List Bool) (r : Result (Function × Bool) AllocError) → IsReach f s → IfOk r (λ made. AreRounds 16 f made.0) → IfOk r (λ made. IsReach made.0 s)
+still_reached f s r reach made = IfOk-weaker r (λ both. AreRounds 16 f both.0) (λ both. IsReach both.0 s) (λ both all. rounds_reach 16 s f both.0 all reach) made
 
 pub rounds_in_place-g-requires : goal.rounds_in_place-g-requires
 rounds_in_place-g-requires c =
@@ -31,9 +37,22 @@ rounds_in_place-g-requires c =
 
 pub returns-then-none : goal.returns-then-none
 returns-then-none c =
+    let own = c.into_vec-blocks.ensures ∙ c.replace.ensures.value in
     let made =
-    subst (λ (bs : List Block). IfOk c.rounds_in_place-g.result (AreRounds 16 (with_blocks c.args.f bs))) (c.into_vec-blocks.ensures ∙ c.replace.ensures.value) c.rounds_in_place-g.ensures in
-    record { made = made; sound = still_sound c.args.f c.rounds_in_place-g.result c.requires.sound made }
+    subst (λ (bs : List Block). IfOk c.rounds_in_place-g.result (λ both. AreRounds 16 (with_blocks c.args.f bs) both.0)) own c.rounds_in_place-g.ensures.made in
+    record {
+      made = made;
+      sound = still_sound c.args.f c.rounds_in_place-g.result c.requires.sound made;
+      reach = still_reached c.args.f c.args.reached.now c.rounds_in_place-g.result c.requires.reach made;
+      same = subst (λ (bs : List Block). IfOk c.rounds_in_place-g.result (λ both. both.1 ≡ false → both.0 ≡ with_blocks c.args.f bs)) own c.rounds_in_place-g.ensures.same;
+    }
 
 pub returns : goal.returns
-returns c = record { made = c.rounds.ensures; sound = still_sound c.args.f c.rounds.result c.requires.sound c.rounds.ensures }
+returns c =
+    let made = c.rounds.ensures.made in
+    record {
+      made = made;
+      sound = still_sound c.args.f c.rounds.result c.requires.sound made;
+      reach = still_reached c.args.f c.args.reached.now c.rounds.result c.requires.reach made;
+      same = c.rounds.ensures.same;
+    }
