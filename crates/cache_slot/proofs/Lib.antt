@@ -1,5 +1,4 @@
 pub mod Parts
-mod Tallies
 mod Steps
 pub mod Prefixes
 mod HistoryWalks

@@ -14,7 +14,7 @@ use Rattle.cache_slot.specs.declared.sight.Stage.{Stage}
 use Rattle.cache_slot.specs.declared.sight.Stage.TheVariants.{Out, Waiting, Inside, Counted}
 use Rattle.cache_slot.specs.Views.{share, ticket_count, is_outside, ticket_of, longer, Knows, tickets_held, turns_left, opening_sight, no_sight, staged, drawn, entered, counted, left_sight, right_sight, both_sights, merged}
 use Rattle.cache_slot.specs.Rule.{PlaceRule, Home, TurnRule, held_log, DrawStep, AwaitStep, CountStep, ServeStep, MeetStep}
-use Rattle.cache_slot.proofs.Tallies.{sum_set, sum_at, sum_two, sum_push}
+use Rattle.claim_word.proofs.Tallies.{sum_set, sum_at, sum_two, sum_push}
 use Rattle.cache_slot.proofs.Prefixes.{prefix_self, prefix_trans, prefix_shorter}
 
 module _ {T R : Type 0} (log : T → List R) where

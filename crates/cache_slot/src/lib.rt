@@ -8,7 +8,8 @@
 //! entries, in a table by their keys. Callers use the one shelf in turn, by a ticket lock ([`SharedCache`]), each
 //! through a [`CachePass`] that knows the history as it was at its last turn. A key is looked up among the entries
 //! first and then in its file; a cache without a directory lives in memory for one command. Below stand `lto_outside`
-//! for the disk, `sha1` and `hex` for names, and `atomic_table` for the lock's words.
+//! for the disk, `sha1` and `hex` for names, `atomic_table` for the lock's words, and `claim_word`, whose lemmas on the
+//! views of all places are this lock's too.
 //!
 //! **Promise.** Bytes are read back as exactly the key and text that were written, and all others are refused. Each
 //! look-up and each store is one turn, and adds one record to the history that this turn found, or none where memory
