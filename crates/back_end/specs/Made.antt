@@ -1,4 +1,4 @@
--- What the back end makes of one function.
+-- What the back end makes of one function: the function compiled.
 use Rattle.std.specs.Prelude.{◌≡◌, ℕ, zero, suc, ◌≤◌, Bool, true, false, List, Option}
 use Rattle.ir_tree.specs.declared.function.Function.{Function}
 use Rattle.ir_edit.specs.Numbered.{in_text_order}

@@ -1,4 +1,4 @@
-//! The pass.
+//! Blocks merged into their only predecessors.
 ghost use Rattle.std.specs.Prelude.{◌≡◌, ◌-◌, ◌^◌, ℕ, false, nat_eq, length, IfOk};
 ghost use Rattle.std.specs.HashSet.{contains};
 ghost use Rattle.ir_tree.specs.Formed.{Distinct, numbers};
@@ -38,9 +38,9 @@ fn merged(alloc: Global, f: &Function, candidates: HashSet<u32>) -> Result<Funct
     })
 }
 
-/// The function with its blocks joined: as long as a block jumps to another one, which is not the entry, has no phis and
-/// has no other predecessor edge, the first such block takes that one's instructions and end, and phi entries that named it
-/// name the taker. Blocks that stay keep their order and numbers.
+/// Blocks merged into their only predecessors: as long as a block jumps to another one, which is not the entry, has no phis
+/// and has no other predecessor edge, the first such block takes that one's instructions and end, and phi entries that named
+/// it name the taker. Blocks that stay keep their order and numbers.
 ///
 /// Where no two blocks have one number, as in every sound function, joins lead from the function to the result, each of the
 /// first block in block order that can take another one, and none is left. Beside want of memory, a function of `2^32` blocks or

@@ -1,4 +1,4 @@
-//! Trimming.
+//! Unreachable blocks dropped.
 ghost use Rattle.std.specs.Prelude.{◌≡◌, false, nat_eq, map, IfOk};
 ghost use Rattle.std.specs.HashSet.{contains};
 ghost use Rattle.ir_tree.specs.Rules.{Sound};
@@ -100,8 +100,8 @@ fn trimmed(alloc: Global, reached: &HashSet<u32>, f: &Function) -> Result<Functi
     })
 }
 
-/// The function without the blocks to which no path leads from the entry, and without the phi entries that name them.
-/// Numbers stay.
+/// Unreachable blocks dropped: the function without the blocks to which no path leads from the entry, and without the phi
+/// entries that name them. Numbers stay.
 ///
 /// Beside want of memory, a function of `2^32` blocks or more is refused as too large for it.
 pub fn trim(alloc: Global, f: &Function) -> Result<Function, AllocError>

@@ -1,4 +1,4 @@
-//! The pass.
+//! Decided branches as jumps.
 ghost use Rattle.std.specs.Prelude.{◌≡◌, false, map, IfOk};
 ghost use Rattle.ir_tree.specs.Rules.{Sound};
 ghost use Rattle.ir_meaning.specs.Near.{BetterThan};
@@ -74,8 +74,9 @@ fn simplified(alloc: Global, f: &Function) -> Result<Function, AllocError>
     })
 }
 
-/// The function with each `br` on `true` or `false` or with equal targets, and each `switch` on a constant or without
-/// cases, as a jump. With an edge goes a phi entry of the block that it led to, the last one for its block; all else stays.
+/// Branches simplified: the function with each `br` on `true` or `false` or with equal targets, and each `switch` on a
+/// constant or without cases, as a jump. With an edge goes a phi entry of the block that it led to, the last one for its
+/// block; all else stays.
 ///
 /// Refused for want of memory alone.
 pub fn branches(alloc: Global, f: &Function) -> Result<Function, AllocError>

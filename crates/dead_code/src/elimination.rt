@@ -27,8 +27,8 @@ fn kept_in(alloc: Global, f: &Function) -> Result<HashSet<u32>, AllocError>
     Ok(kept)
 }
 
-/// The function with its terminators, its stores, its calls and what gives a value to a local that these
-/// or other needed instructions read. All other phis and instructions go.
+/// Dead code elimination: the function with its terminators, its stores, its calls and what gives a value to a local
+/// that these or other needed instructions read. All other phis and instructions go.
 pub fn needed(alloc: Global, f: &Function) -> Result<Function, AllocError>
     ensures needed { IfOk result (λ g. IsNeededOf f.now g) }
     ensures better { IfOk result (λ g. (p : Program) → IsFormed p → BetterThan p (longest f.now.blocks + 1) g f.now) }

@@ -80,9 +80,9 @@ fn inlined(
     Ok(g)
 }
 
-/// The function with the callee's body in the place of the direct call of the callee, of its type, that stands at this place,
-/// counted from 1 over the function's phis, instructions and terminators in the order of the text. `None` where no such call
-/// stands there, or the callee has no blocks.
+/// Inlining of one call: the function with the callee's body in the place of the direct call of the callee, of its type, that
+/// stands at this place, counted from 1 over the function's phis, instructions and terminators in the order of the text.
+/// `None` where no such call stands there, or the callee has no blocks.
 ///
 /// The result is the one that `specs/Inlined.antt` defines, for a sound callee; for a sound function it is sound too, and
 /// better in each program in which the callee's body is the program's own. Beside want of memory, functions are refused whose

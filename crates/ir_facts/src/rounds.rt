@@ -222,9 +222,9 @@ pub fn into_applied(
     rounds(alloc, f, &outside, ROUNDS)
 }
 
-/// A sound function with uses of locals replaced by what has their value: the one operand that a phi takes, and
-/// the operand of the rule table, wherever the fact that it has this value holds at the use; sixteen rounds, but none
-/// behind one that changes nothing, which would change nothing either.
+/// Copy and constant propagation: a sound function with uses of locals replaced by what has their value, the one operand
+/// that a phi takes and the operand of the rule table, wherever the fact that it has this value holds at the use; sixteen
+/// rounds, but none behind one that changes nothing, which would change nothing either.
 /// In each round an instruction whose operand rests on a free choice becomes a freeze of it, in its place and under its
 /// number, and all its uses take that one constant.
 ///

@@ -95,13 +95,13 @@ IsAnswered z near entry memory right (Gives answer memory') =
     Fails z right [] ⊎ GivesToo z entry answer memory' right
 IsAnswered z near entry memory right (Breaks why) = Fails z right []
 
--- n steps of the better function are answered
+-- simulation: n steps of the better function are answered
 abbrev pub Near : Setting → ℕ → Point → Frame → Memory → State → Type 0
 Near z zero entry frame memory right = Unit {0}
 Near z (suc n) entry frame memory right =
     (choice : ℕ) → IsAnswered z (Near z n entry) entry memory right (act z.program.signature z.input frame memory right.place choice)
 
--- the function f is better than g in the program, with answers of at most so many steps
+-- refinement: the function f is better than g in the program, with answers of at most so many steps
 abbrev pub BetterThan : Program → ℕ → Function → Function → Type 0
 BetterThan p bound f g =
     (input : List ℕ) (n : ℕ) (entry : Point) (arguments arguments' : List Value) (place : ℕ) → Related entry →

@@ -103,6 +103,7 @@ pub enum Instr {
         address: Operand,
         align: u64,
     },
+    /// A `getelementptr`: the address of a part of a shape.
     Address {
         inbounds: bool,
         shape: Shape,

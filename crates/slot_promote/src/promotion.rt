@@ -1,4 +1,4 @@
-//! The pass.
+//! Stack slots promoted to registers.
 ghost use Rattle.std.specs.Prelude.{◌≡◌, ℕ, ◌+◌, ◌<◌, ◌++◌, length, Some, IfOk};
 ghost use Rattle.ir_tree.specs.Flow.{Among};
 ghost use Rattle.ir_tree.specs.Rules.{Sound};
@@ -219,8 +219,8 @@ fn promoted(alloc: Global, slots: &Slots, f: &Function) -> Result<Function, Allo
     Ok(g)
 }
 
-/// The function with each promotable slot as values, all at once: none where slots times blocks are more than
-/// 4,000,000.
+/// Promotion of stack slots to registers: the function with each promotable slot as values, all at once; none where slots
+/// times blocks are more than 4,000,000.
 ///
 /// Beside want of memory, a function of `2^32` blocks or more is refused as too large for it, and one where the number
 /// of a new phi would pass 32 bits.
