@@ -14,7 +14,7 @@
 //! is taken where tokens are shorter. Want of memory is answered as such, and so is a text of `2^32 - 1` bytes or more,
 //! since lines have 32 bits.
 //!
-//! **Not shown.** That the table is that of LLVM's lexer: `text_tests` tries it on small texts. That memory for the
+//! **Not shown.** That the table is that of LLVM's lexer: `tests_text` tries it on small texts. That memory for the
 //! tokens is found.
 #![tactic(auto)]
 

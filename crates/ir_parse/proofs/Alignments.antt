@@ -5,12 +5,12 @@ use Rattle.std.proofs.lemmas.Bool.{and_parts, eqb-true, or_cases}
 use Rattle.ir_lex.specs.TokenKinds.{number}
 use Rattle.ir_lex.specs.Rows.{begins}
 use Rattle.ir_lex.specs.declared.token_kind.TokenKind.TheVariants as kinds
-use Rattle.ir_read.specs.Alphabet.{contains}
-use Rattle.ir_read.specs.Forms as form
-use Rattle.ir_read.specs.declared.fault.TokenFault.TheVariants.{Number}
-use Rattle.ir_read.specs.Classes.{refusal}
-use Rattle.ir_read.specs.Decimals.{ALIGNMENTS, alignment_of, decimal, is_alignment}
-use Rattle.ir_instructions.specs.Instructions as instructions
+use Rattle.ir_parse_parts.specs.Alphabet.{contains}
+use Rattle.ir_parse_parts.specs.Forms as form
+use Rattle.ir_parse_parts.specs.declared.fault.TokenFault.TheVariants.{Number}
+use Rattle.ir_parse_parts.specs.Classes.{refusal}
+use Rattle.ir_parse_parts.specs.Decimals.{ALIGNMENTS, alignment_of, decimal, is_alignment}
+use Rattle.ir_parse_instructions.specs.Instructions as instructions
 use Rattle.ir_tree.specs.Formed.{IsAlignment}
 use Rattle.ir_parse.specs.Written.{AlignWritten}
 use Rattle.ir_parse.proofs.Means.{Means, accepted, either_means, follow, nothing, skip, token_means}

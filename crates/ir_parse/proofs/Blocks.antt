@@ -2,11 +2,11 @@
 use Rattle.std.proofs.Common.{◌≡◌, ℕ, List, [], Option, Some, None, refl}
 use Rattle.std.specs.List.{AllByRecursion as Each}
 use Rattle.std.proofs.lemmas.List.Elements.{All-from_recursion}
-use Rattle.ir_bodies.specs.Blocks.{FURTHER_BLOCKS, INSTRUCTIONS, block, block_behind, blocks, definition, keep, lines}
+use Rattle.ir_parse_bodies.specs.Blocks.{FURTHER_BLOCKS, INSTRUCTIONS, block, block_behind, blocks, definition, keep, lines}
 use Rattle.ir_lex.specs.Tok.{Tok}
-use Rattle.ir_read.specs.Operands.{local}
-use Rattle.ir_heads.specs.declared.function_heads.Role.TheVariants as roles
-use Rattle.ir_read.specs.declared.raw.Block.{Block}
+use Rattle.ir_parse_parts.specs.Operands.{local}
+use Rattle.ir_parse_heads.specs.declared.function_heads.Role.TheVariants as roles
+use Rattle.ir_parse_parts.specs.declared.raw.Block.{Block}
 use Rattle.ir_tree.specs.Formed.{IsReg}
 use Rattle.ir_parse.specs.Written.{BlockWritten, LineWritten}
 use Rattle.ir_parse.specs.Items.{ItemWritten}

@@ -3,11 +3,11 @@ use Rattle.std.proofs.Common.{Bool, true, false, List, [], ◌∷◌, Option, So
 use Rattle.std.specs.List.{AllByRecursion as Each}
 use Rattle.std.specs.Prelude.{IfSome}
 use Rattle.std.proofs.lemmas.List.Elements.{All-from_recursion}
-use Rattle.ir_bodies.specs.Calls.{any_arguments, argument, argument_behind, argument_of, arguments, arguments_of, called, called_value, callee, calling, each_further, further_argument, further_of, marker, some_arguments, some_of, tail_calling, type_again, unmarked, unmarked_value}
+use Rattle.ir_parse_bodies.specs.Calls.{any_arguments, argument, argument_behind, argument_of, arguments, arguments_of, called, called_value, callee, calling, each_further, further_argument, further_of, marker, some_arguments, some_of, tail_calling, type_again, unmarked, unmarked_value}
 use Rattle.ir_lex.specs.Tok.{Tok}
-use Rattle.ir_operands.specs.ShapeForms.{memory_shape}
-use Rattle.ir_read.specs.declared.raw.Argument.{Argument}
-use Rattle.ir_read.specs.declared.raw.Operand.{Operand}
+use Rattle.ir_parse_operands.specs.ShapeForms.{memory_shape}
+use Rattle.ir_parse_parts.specs.declared.raw.Argument.{Argument}
+use Rattle.ir_parse_parts.specs.declared.raw.Operand.{Operand}
 use Rattle.ir_tree.specs.Formed.{IsReg, IsResult}
 use Rattle.ir_tree.specs.declared.operand.Reg.{Reg}
 use Rattle.ir_tree.specs.declared.operand.Reg.TheVariants.{Ptr}

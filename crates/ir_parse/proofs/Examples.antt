@@ -3,11 +3,11 @@ use Rattle.std.proofs.Common.{◌≡◌, refl, false, [], Ok, inl, inr, arith}
 use Rattle.std.proofs.lemmas.List.Elements.{All-from_recursion, All-nil}
 use Rattle.ir_lex.specs.Quotes.{content, unescaped}
 use Rattle.ir_tree.specs.Formed.{IsReg, IsStored, IsWidth}
-use Rattle.named_values.specs.Blocks.{block_of, function_in}
-use Rattle.ir_names.specs.Keys.{decimal_of, key_of, number_of}
-use Rattle.ir_names.specs.Numbering.{locals_of, with_block}
-use Rattle.ir_names.specs.Symbols.{symbol_name}
-use Rattle.ir_names.specs.Types.{expanded, head_of}
+use Rattle.ir_parse_values.specs.Blocks.{block_of, function_in}
+use Rattle.ir_parse_names.specs.Keys.{decimal_of, key_of, number_of}
+use Rattle.ir_parse_names.specs.Numbering.{locals_of, with_block}
+use Rattle.ir_parse_names.specs.Symbols.{symbol_name}
+use Rattle.ir_parse_names.specs.Types.{expanded, head_of}
 use Rattle.ir_parse.specs.Resolved.{OneResolves}
 use Rattle.ir_parse.specs.Worked.{entries, first, second, worked, worked_blocks, worked_head}
 use Rattle.ir_parse.specs.Written.{BlockWritten, IsWritten, LineWritten, OperandWritten, TypeWritten}

@@ -6,22 +6,22 @@ use Rattle.ir_lex.specs.TokenKinds.{number}
 use Rattle.ir_lex.specs.Tok.{Tok}
 use Rattle.ir_lex.specs.declared.token_kind.TokenKind.TheVariants as kinds
 use Rattle.ir_lex.specs.declared.token_kind.TokenKind.{TokenKind}
-use Rattle.ir_read.proofs.Composed.{all_real, cut_is, reads, reads_is, wrong, wrong_is}
-use Rattle.ir_read.proofs.Rules.{apart_from, within_of}
-use Rattle.ir_read.specs.Alphabet.{AllReal, among, contains}
-use Rattle.ir_read.specs.Forms as form
-use Rattle.ir_read.specs.Forms.{Form, Star}
-use Rattle.ir_read.specs.Lawful.{IsBound, ends}
-use Rattle.ir_read.specs.Readers.{Reader, fault_at, done, follow, ◌>>=◌, token_means, token_at, pick, many_at, star_at, optional_at}
-use Rattle.ir_read.specs.Rules.{Rule, disjoint, subset}
-use Rattle.ir_read.specs.declared.fault.Fault.{Fault}
-use Rattle.ir_read.specs.declared.fault.TokenFault.TheVariants.{Syntax, Profile, Number, Limit}
-use Rattle.ir_read.specs.declared.fault.TokenFault.{TokenFault}
-use Rattle.ir_read.specs.Classes.{tokens, IsReal}
-use Rattle.ir_heads.specs.FunctionHeads.{GLOBAL}
-use Rattle.ir_read.specs.Operands.{REG}
-use Rattle.ir_heads.specs.Targets.{STRING}
-use Rattle.ir_operands.specs.ShapeForms.{OPEN_ANGLE, OPEN_BRACE}
+use Rattle.ir_parse_parts.proofs.Composed.{all_real, cut_is, reads, reads_is, wrong, wrong_is}
+use Rattle.ir_parse_parts.proofs.Rules.{apart_from, within_of}
+use Rattle.ir_parse_parts.specs.Alphabet.{AllReal, among, contains}
+use Rattle.ir_parse_parts.specs.Forms as form
+use Rattle.ir_parse_parts.specs.Forms.{Form, Star}
+use Rattle.ir_parse_parts.specs.Lawful.{IsBound, ends}
+use Rattle.ir_parse_parts.specs.Readers.{Reader, fault_at, done, follow, ◌>>=◌, token_means, token_at, pick, many_at, star_at, optional_at}
+use Rattle.ir_parse_parts.specs.Rules.{Rule, disjoint, subset}
+use Rattle.ir_parse_parts.specs.declared.fault.Fault.{Fault}
+use Rattle.ir_parse_parts.specs.declared.fault.TokenFault.TheVariants.{Syntax, Profile, Number, Limit}
+use Rattle.ir_parse_parts.specs.declared.fault.TokenFault.{TokenFault}
+use Rattle.ir_parse_parts.specs.Classes.{tokens, IsReal}
+use Rattle.ir_parse_heads.specs.FunctionHeads.{GLOBAL}
+use Rattle.ir_parse_parts.specs.Operands.{REG}
+use Rattle.ir_parse_heads.specs.Targets.{STRING}
+use Rattle.ir_parse_operands.specs.ShapeForms.{OPEN_ANGLE, OPEN_BRACE}
 use Rattle.ir_parse.specs.Refusals.{MEMORY, WORD, last_is}
 
 -- the classes of the tokens that one of this class stands for, directly behind `<` or not; a string stands for each other

@@ -7,24 +7,24 @@ use Rattle.ir_lex.specs.Tok.{Tok}
 use Rattle.ir_lex.specs.declared.token_kind.TokenKind.TheVariants as kinds
 use Rattle.ir_lex.specs.declared.token.TokenForm.TheVariants as forms
 use Rattle.ir_tree.specs.declared.operand.Reg.TheVariants.{Ptr}
-use Rattle.ir_read.specs.Alphabet.{among}
-use Rattle.ir_read.specs.Chained.{Chain, chain_at}
-use Rattle.ir_read.specs.Lawful.{IsBound}
-use Rattle.ir_read.specs.Rules.{in_range, is_class, is_valued}
-use Rattle.ir_read.specs.declared.fault.TokenFault.TheVariants.{Number, Limit}
-use Rattle.ir_read.specs.declared.fault.TokenFault.{TokenFault}
-use Rattle.ir_instructions.specs.Addressing.{slots_fit, any_slots, one_slot, slots_behind, reserving, indexing, attaching, behind_comma, further, indices, addressing, fitting, is_count, count_in, many_slots}
-use Rattle.ir_instructions.specs.AddressingAt.{begins, one_slot_at, slots_behind_at, reserving_at, indexing_at, attaching_at, behind_comma_at, further_at, indices_at, addressing_at, passes, count_means, count_in_at, many_slots_at}
-use Rattle.ir_read.specs.Ahead.{ALIGNED}
-use Rattle.ir_read.specs.Classes.{tokens, refusal}
-use Rattle.ir_read.specs.Literals.{literal}
-use Rattle.ir_read.specs.Metadata.{META}
-use Rattle.ir_read.specs.MetadataAt.{COMMA}
-use Rattle.ir_instructions.specs.Phis as phis
-use Rattle.ir_operands.specs.ShapeForms.{any_shape, NUMBER, counted, count_of}
-use Rattle.ir_read.specs.Shapes.{Written, pointer}
-use Rattle.ir_read.specs.declared.raw.Argument.{Argument}
-use Rattle.ir_read.proofs.Singles.{sample, number_real}
+use Rattle.ir_parse_parts.specs.Alphabet.{among}
+use Rattle.ir_parse_parts.specs.Chained.{Chain, chain_at}
+use Rattle.ir_parse_parts.specs.Lawful.{IsBound}
+use Rattle.ir_parse_parts.specs.Rules.{in_range, is_class, is_valued}
+use Rattle.ir_parse_parts.specs.declared.fault.TokenFault.TheVariants.{Number, Limit}
+use Rattle.ir_parse_parts.specs.declared.fault.TokenFault.{TokenFault}
+use Rattle.ir_parse_instructions.specs.Addressing.{slots_fit, any_slots, one_slot, slots_behind, reserving, indexing, attaching, behind_comma, further, indices, addressing, fitting, is_count, count_in, many_slots}
+use Rattle.ir_parse_instructions.specs.AddressingAt.{begins, one_slot_at, slots_behind_at, reserving_at, indexing_at, attaching_at, behind_comma_at, further_at, indices_at, addressing_at, passes, count_means, count_in_at, many_slots_at}
+use Rattle.ir_parse_parts.specs.Ahead.{ALIGNED}
+use Rattle.ir_parse_parts.specs.Classes.{tokens, refusal}
+use Rattle.ir_parse_parts.specs.Literals.{literal}
+use Rattle.ir_parse_parts.specs.Metadata.{META}
+use Rattle.ir_parse_parts.specs.MetadataAt.{COMMA}
+use Rattle.ir_parse_instructions.specs.Phis as phis
+use Rattle.ir_parse_operands.specs.ShapeForms.{any_shape, NUMBER, counted, count_of}
+use Rattle.ir_parse_parts.specs.Shapes.{Written, pointer}
+use Rattle.ir_parse_parts.specs.declared.raw.Argument.{Argument}
+use Rattle.ir_parse_parts.proofs.Singles.{sample, number_real}
 use Rattle.ir_parse.proofs.Exchanged.{Exchanges, alt, nothing, seq, single, token_begins}
 use Rattle.ir_parse.proofs.ExchangedChains.{chain}
 use Rattle.ir_parse.proofs.ExchangedMemory as memory

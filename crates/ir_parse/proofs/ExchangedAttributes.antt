@@ -7,26 +7,26 @@ use Rattle.ir_lex.specs.Rows.{begins}
 use Rattle.ir_lex.specs.Tok.{Tok}
 use Rattle.ir_lex.specs.declared.token_kind.TokenKind.TheVariants as kinds
 use Rattle.ir_lex.specs.declared.token.TokenForm.TheVariants as forms
-use Rattle.ir_read.specs.Alphabet.{contains, among}
-use Rattle.ir_read.specs.Forms as form
-use Rattle.ir_read.specs.Lawful.{IsBound}
-use Rattle.ir_read.specs.Readers as reader
-use Rattle.ir_read.specs.Readers.{token_at}
-use Rattle.ir_read.specs.Rules.{in_range, is_among, is_valued}
-use Rattle.ir_read.specs.declared.fault.TokenFault.TheVariants.{Number}
-use Rattle.ir_read.specs.declared.fault.TokenFault.{TokenFault}
-use Rattle.ir_heads.specs.Attributes.{group_name, WORDS, CALL_WORDS, GROUP_WORDS, GROUP, word_kept, aligned, parameter_attribute, parameter_attributes, word_tail, word_attribute, string_value, string_attribute, function_attribute, group_attribute, call_attribute, call_attributes, head_alignment, head_attribute, attached_attribute, definition_attribute, definition_attributes, grouped, attribute_group, with_attribute, none_kept, group_item}
-use Rattle.ir_heads.specs.AttributesAt.{group_name_at, NUMBER, EQUALS, STRING, ALIGN, PARAMETER_WORD, PARAMETER_GROUP, PARAMETER, CALL, DEFINITION, aligned_at, parameter_attribute_at, parameter_attributes_at, word_tail_at, word_attribute_at, string_value_at, string_attribute_at, function_attribute_at, group_attribute_at, call_attribute_at, call_attributes_at, head_alignment_at, head_attribute_at, attached_attribute_at, definition_attribute_at, definition_attributes_at, GROUPED, grouped_at, attribute_group_at}
-use Rattle.ir_read.specs.Classes.{tokens, refusal}
-use Rattle.ir_read.specs.Decimals.{ALIGNMENTS, alignment_of, decimal, is_alignment}
-use Rattle.ir_read.specs.Metadata.{META}
-use Rattle.ir_read.specs.MetadataAt.{PAREN}
-use Rattle.ir_read.specs.Operands.{group_named}
-use Rattle.ir_heads.specs.declared.attributes.Attribute.TheVariants.{Dropped}
-use Rattle.ir_read.specs.declared.brackets.Bracket.TheVariants.{Paren}
-use Rattle.ir_read.proofs.Alignments.{alignment_rule}
-use Rattle.ir_heads.proofs.AttributeRules.{call_attribute_rule, definition_attribute_rule, grouped_attribute_rule, parameter_attribute_rule}
-use Rattle.ir_read.proofs.Singles.{group_name_real, sample}
+use Rattle.ir_parse_parts.specs.Alphabet.{contains, among}
+use Rattle.ir_parse_parts.specs.Forms as form
+use Rattle.ir_parse_parts.specs.Lawful.{IsBound}
+use Rattle.ir_parse_parts.specs.Readers as reader
+use Rattle.ir_parse_parts.specs.Readers.{token_at}
+use Rattle.ir_parse_parts.specs.Rules.{in_range, is_among, is_valued}
+use Rattle.ir_parse_parts.specs.declared.fault.TokenFault.TheVariants.{Number}
+use Rattle.ir_parse_parts.specs.declared.fault.TokenFault.{TokenFault}
+use Rattle.ir_parse_heads.specs.Attributes.{group_name, WORDS, CALL_WORDS, GROUP_WORDS, GROUP, word_kept, aligned, parameter_attribute, parameter_attributes, word_tail, word_attribute, string_value, string_attribute, function_attribute, group_attribute, call_attribute, call_attributes, head_alignment, head_attribute, attached_attribute, definition_attribute, definition_attributes, grouped, attribute_group, with_attribute, none_kept, group_item}
+use Rattle.ir_parse_heads.specs.AttributesAt.{group_name_at, NUMBER, EQUALS, STRING, ALIGN, PARAMETER_WORD, PARAMETER_GROUP, PARAMETER, CALL, DEFINITION, aligned_at, parameter_attribute_at, parameter_attributes_at, word_tail_at, word_attribute_at, string_value_at, string_attribute_at, function_attribute_at, group_attribute_at, call_attribute_at, call_attributes_at, head_alignment_at, head_attribute_at, attached_attribute_at, definition_attribute_at, definition_attributes_at, GROUPED, grouped_at, attribute_group_at}
+use Rattle.ir_parse_parts.specs.Classes.{tokens, refusal}
+use Rattle.ir_parse_parts.specs.Decimals.{ALIGNMENTS, alignment_of, decimal, is_alignment}
+use Rattle.ir_parse_parts.specs.Metadata.{META}
+use Rattle.ir_parse_parts.specs.MetadataAt.{PAREN}
+use Rattle.ir_parse_parts.specs.Operands.{group_named}
+use Rattle.ir_parse_heads.specs.declared.attributes.Attribute.TheVariants.{Dropped}
+use Rattle.ir_parse_parts.specs.declared.brackets.Bracket.TheVariants.{Paren}
+use Rattle.ir_parse_parts.proofs.Alignments.{alignment_rule}
+use Rattle.ir_parse_heads.proofs.AttributeRules.{call_attribute_rule, definition_attribute_rule, grouped_attribute_rule, parameter_attribute_rule}
+use Rattle.ir_parse_parts.proofs.Singles.{group_name_real, sample}
 use Rattle.ir_parse.proofs.Exchanged.{Exchanges, alt, goes_alone, maybe, nothing, seq, star, star_words, taken, Exchanging, seq_closing, with_value}
 use Rattle.ir_parse.proofs.ExchangedGroups.{group_exchanged}
 use Rattle.ir_parse.proofs.ExchangedNodes.{attached_exchanged}

@@ -6,25 +6,25 @@ use Rattle.std.specs.Prelude.{codes}
 use Rattle.ir_lex.specs.Tok.{Tok}
 use Rattle.ir_lex.specs.declared.token_kind.TokenKind.TheVariants as kinds
 use Rattle.ir_lex.specs.declared.token.TokenForm.TheVariants as forms
-use Rattle.ir_read.specs.Chained.{Chain}
-use Rattle.ir_read.specs.Forms as form
-use Rattle.ir_read.specs.Forms.{Form}
-use Rattle.ir_read.specs.Readers.{Reader, ◌>>=◌}
-use Rattle.ir_read.specs.Rules.{in_range, is_valued}
-use Rattle.ir_instructions.specs.Addressing.{any_slots}
-use Rattle.ir_read.specs.Classes.{tokens, refusal, the, the_at}
-use Rattle.ir_read.specs.Operands.{named}
-use Rattle.ir_heads.specs.declared.function_heads.Role.TheVariants as roles
-use Rattle.ir_operands.specs.ShapeForms.{any_shape}
-use Rattle.ir_read.specs.declared.raw.Block.{Block}
-use Rattle.ir_read.specs.declared.raw.WrittenLine.{WrittenLine}
-use Rattle.ir_read.proofs.Singles.{sample}
-use Rattle.ir_bodies.specs.Blocks.{LABEL, any_label, any_local, keep, lines, block_of, block_behind, block, any_lines, any_block_behind, any_block, at_will, blocks, any_blocks, FURTHER_BLOCKS, INSTRUCTIONS, definition, any_definition}
-use Rattle.ir_bodies.specs.BlocksAt.{BLOCK, label_at, lines_at, block_behind_at, block_at, further_blocks_at, blocks_behind_at, blocks_at, definition_at}
-use Rattle.ir_bodies.specs.Lines.{line}
-use Rattle.ir_bodies.specs.LinesAt.{LINE}
-use Rattle.ir_bodies.proofs.LineRules.{any_name}
-use Rattle.ir_bodies.proofs.Samples.{label_real, define_word_rule}
+use Rattle.ir_parse_parts.specs.Chained.{Chain}
+use Rattle.ir_parse_parts.specs.Forms as form
+use Rattle.ir_parse_parts.specs.Forms.{Form}
+use Rattle.ir_parse_parts.specs.Readers.{Reader, ◌>>=◌}
+use Rattle.ir_parse_parts.specs.Rules.{in_range, is_valued}
+use Rattle.ir_parse_instructions.specs.Addressing.{any_slots}
+use Rattle.ir_parse_parts.specs.Classes.{tokens, refusal, the, the_at}
+use Rattle.ir_parse_parts.specs.Operands.{named}
+use Rattle.ir_parse_heads.specs.declared.function_heads.Role.TheVariants as roles
+use Rattle.ir_parse_operands.specs.ShapeForms.{any_shape}
+use Rattle.ir_parse_parts.specs.declared.raw.Block.{Block}
+use Rattle.ir_parse_parts.specs.declared.raw.WrittenLine.{WrittenLine}
+use Rattle.ir_parse_parts.proofs.Singles.{sample}
+use Rattle.ir_parse_bodies.specs.Blocks.{LABEL, any_label, any_local, keep, lines, block_of, block_behind, block, any_lines, any_block_behind, any_block, at_will, blocks, any_blocks, FURTHER_BLOCKS, INSTRUCTIONS, definition, any_definition}
+use Rattle.ir_parse_bodies.specs.BlocksAt.{BLOCK, label_at, lines_at, block_behind_at, block_at, further_blocks_at, blocks_behind_at, blocks_at, definition_at}
+use Rattle.ir_parse_bodies.specs.Lines.{line}
+use Rattle.ir_parse_bodies.specs.LinesAt.{LINE}
+use Rattle.ir_parse_bodies.proofs.LineRules.{any_name}
+use Rattle.ir_parse_bodies.proofs.Samples.{label_real, define_word_rule}
 use Rattle.ir_parse.specs.NamedCalls.{before_named_callee, in_block, in_blocks, in_definition, in_lines}
 use Rattle.ir_parse.proofs.Exchanged.{Exchanges, Swapping, alt_by, barred, nothing, placed_none, recast, seq, seq_by, seq_closing, seq_closing_to, seq_from, seq_to, up_to_words, with_value}
 use Rattle.ir_parse.proofs.ExchangedAttributes.{definition_attributes_exchanged}

@@ -7,33 +7,33 @@ use Rattle.ir_lex.specs.declared.token_kind.TokenKind.TheVariants as kinds
 use Rattle.ir_lex.specs.declared.token_kind.TokenKind.{TokenKind}
 use Rattle.ir_tree.specs.declared.operand.Reg.TheVariants.{Ptr, Int}
 use Rattle.ir_tree.specs.declared.operand.Reg.{Reg}
-use Rattle.ir_read.proofs.Rules as rules
-use Rattle.ir_read.specs.Alphabet.{among, contains}
-use Rattle.ir_read.specs.Forms as form
-use Rattle.ir_read.specs.Lawful.{IsBound}
-use Rattle.ir_read.specs.Readers.{done, follow, ◌>>=◌}
-use Rattle.ir_read.specs.Rules.{is_among, is_class, is_valued}
-use Rattle.ir_read.specs.declared.fault.TokenFault.TheVariants.{Syntax}
-use Rattle.ir_read.specs.declared.fault.TokenFault.{TokenFault}
-use Rattle.ir_heads.specs.Attributes.{call_attributes}
-use Rattle.ir_heads.specs.AttributesAt.{call_attributes_at}
-use Rattle.ir_read.specs.Classes.{tokens, IsReal, refusal, the, the_at, itself}
-use Rattle.ir_read.specs.Metadata.{attachments}
-use Rattle.ir_read.specs.MetadataAt.{COMMA, PAREN, attachments_at}
-use Rattle.ir_read.specs.Operands.{REG, RESULT, POINTER_OPERAND, result, type_refusal, reg_of, operand_of}
-use Rattle.ir_read.specs.OperandsAt.{reg_at}
-use Rattle.ir_operands.specs.ShapeForms.{any_shape}
-use Rattle.ir_operands.specs.ValuesAt.{ADDRESS}
-use Rattle.ir_read.specs.declared.raw.Operand.{Operand}
-use Rattle.ir_read.specs.declared.raw.Operand.TheVariants as operands
-use Rattle.ir_read.proofs.OperandRules.{type_not_number, type_not_limit}
-use Rattle.ir_read.proofs.Singles.{word}
-use Rattle.ir_read.proofs.Words.{int_32_real, null_real}
-use Rattle.ir_bodies.specs.Calls.{convention, conventions, written_type, further_type, some_types, listed_types, types, argument_behind, argument, further_argument, some_arguments, any_arguments, is_type, type_again, argument_of, further_of, each_further, some_of, arguments_of, arguments, called_value, marker, marker_refusal, unmarked, unmarked_value, callee, called, calling, same_reg}
-use Rattle.ir_bodies.specs.CallsAt.{CONVENTION, CONVENTIONS, MARKER, convention_at, conventions_at, written_type_at, further_type_at, types_behind_at, some_types_at, listed_types_at, types_at, argument_behind_at, argument_at, further_argument_at, arguments_behind_at, some_arguments_at, any_arguments_at, type_again_at, argument_of_at, further_of_at, each_further_at, each_behind_at, some_of_at, arguments_of_at, arguments_at, called_value_at, marker_at, unmarked_at, unmarked_value_at, callee_at, calling_at}
-use Rattle.ir_bodies.proofs.CallRules.{convention_rule, further_argument_rule, further_type_rule}
-use Rattle.ir_bodies.proofs.Samples.{convention_word_rule, marker_name_rule, call_word_rule}
-use Rattle.ir_bodies.proofs.WrittenTypes.{writes}
+use Rattle.ir_parse_parts.proofs.Rules as rules
+use Rattle.ir_parse_parts.specs.Alphabet.{among, contains}
+use Rattle.ir_parse_parts.specs.Forms as form
+use Rattle.ir_parse_parts.specs.Lawful.{IsBound}
+use Rattle.ir_parse_parts.specs.Readers.{done, follow, ◌>>=◌}
+use Rattle.ir_parse_parts.specs.Rules.{is_among, is_class, is_valued}
+use Rattle.ir_parse_parts.specs.declared.fault.TokenFault.TheVariants.{Syntax}
+use Rattle.ir_parse_parts.specs.declared.fault.TokenFault.{TokenFault}
+use Rattle.ir_parse_heads.specs.Attributes.{call_attributes}
+use Rattle.ir_parse_heads.specs.AttributesAt.{call_attributes_at}
+use Rattle.ir_parse_parts.specs.Classes.{tokens, IsReal, refusal, the, the_at, itself}
+use Rattle.ir_parse_parts.specs.Metadata.{attachments}
+use Rattle.ir_parse_parts.specs.MetadataAt.{COMMA, PAREN, attachments_at}
+use Rattle.ir_parse_parts.specs.Operands.{REG, RESULT, POINTER_OPERAND, result, type_refusal, reg_of, operand_of}
+use Rattle.ir_parse_parts.specs.OperandsAt.{reg_at}
+use Rattle.ir_parse_operands.specs.ShapeForms.{any_shape}
+use Rattle.ir_parse_operands.specs.ValuesAt.{ADDRESS}
+use Rattle.ir_parse_parts.specs.declared.raw.Operand.{Operand}
+use Rattle.ir_parse_parts.specs.declared.raw.Operand.TheVariants as operands
+use Rattle.ir_parse_parts.proofs.OperandRules.{type_not_number, type_not_limit}
+use Rattle.ir_parse_parts.proofs.Singles.{word}
+use Rattle.ir_parse_parts.proofs.Words.{int_32_real, null_real}
+use Rattle.ir_parse_bodies.specs.Calls.{convention, conventions, written_type, further_type, some_types, listed_types, types, argument_behind, argument, further_argument, some_arguments, any_arguments, is_type, type_again, argument_of, further_of, each_further, some_of, arguments_of, arguments, called_value, marker, marker_refusal, unmarked, unmarked_value, callee, called, calling, same_reg}
+use Rattle.ir_parse_bodies.specs.CallsAt.{CONVENTION, CONVENTIONS, MARKER, convention_at, conventions_at, written_type_at, further_type_at, types_behind_at, some_types_at, listed_types_at, types_at, argument_behind_at, argument_at, further_argument_at, arguments_behind_at, some_arguments_at, any_arguments_at, type_again_at, argument_of_at, further_of_at, each_further_at, each_behind_at, some_of_at, arguments_of_at, arguments_at, called_value_at, marker_at, unmarked_at, unmarked_value_at, callee_at, calling_at}
+use Rattle.ir_parse_bodies.proofs.CallRules.{convention_rule, further_argument_rule, further_type_rule}
+use Rattle.ir_parse_bodies.proofs.Samples.{convention_word_rule, marker_name_rule, call_word_rule}
+use Rattle.ir_parse_bodies.proofs.WrittenTypes.{writes}
 use Rattle.ir_parse.specs.NamedCalls.{before_callee}
 use Rattle.ir_parse.specs.Refusals.{MEMORY}
 use Rattle.ir_parse.proofs.Exchanged.{differ, Exchanges, Place, SaysAt, Swapping, alt, alt_by, maybe, nothing, nowhere, placed_too, seq, seq_from, seq_to, single_at, star, taken, stands_for, Exchanging, a_type, seq_into, seq_passing}

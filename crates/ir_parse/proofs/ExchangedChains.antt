@@ -5,19 +5,19 @@ use Rattle.ir_lex.specs.TokenKinds.{number}
 use Rattle.ir_lex.specs.Tok.{Tok}
 use Rattle.ir_lex.specs.declared.token_kind.TokenKind.TheVariants as kinds
 use Rattle.ir_lex.specs.declared.token_kind.TokenKind.{TokenKind}
-use Rattle.ir_read.proofs.Composed.{all_real, cut_is, reads, reads_is, wrong, wrong_is}
-use Rattle.ir_read.specs.Alphabet.{AllReal, among, contains}
-use Rattle.ir_read.specs.Chained.{Chain, stops_here, chain_within, chain_at}
-use Rattle.ir_read.proofs.Rules.{within_of}
-use Rattle.ir_read.specs.Forms.{Form}
-use Rattle.ir_read.specs.Lawful.{ends}
-use Rattle.ir_read.specs.Readers.{Reader, fault_at, done, follow, ◌>>=◌}
-use Rattle.ir_read.specs.declared.fault.Fault.{Fault}
-use Rattle.ir_read.specs.declared.fault.TokenFault.TheVariants.{Syntax}
-use Rattle.ir_read.specs.declared.fault.TokenFault.{TokenFault}
-use Rattle.ir_read.specs.Rules.{disjoint}
-use Rattle.ir_read.specs.Classes.{tokens}
-use Rattle.ir_operands.specs.ShapeForms.{OPEN_BRACE}
+use Rattle.ir_parse_parts.proofs.Composed.{all_real, cut_is, reads, reads_is, wrong, wrong_is}
+use Rattle.ir_parse_parts.specs.Alphabet.{AllReal, among, contains}
+use Rattle.ir_parse_parts.specs.Chained.{Chain, stops_here, chain_within, chain_at}
+use Rattle.ir_parse_parts.proofs.Rules.{within_of}
+use Rattle.ir_parse_parts.specs.Forms.{Form}
+use Rattle.ir_parse_parts.specs.Lawful.{ends}
+use Rattle.ir_parse_parts.specs.Readers.{Reader, fault_at, done, follow, ◌>>=◌}
+use Rattle.ir_parse_parts.specs.declared.fault.Fault.{Fault}
+use Rattle.ir_parse_parts.specs.declared.fault.TokenFault.TheVariants.{Syntax}
+use Rattle.ir_parse_parts.specs.declared.fault.TokenFault.{TokenFault}
+use Rattle.ir_parse_parts.specs.Rules.{disjoint}
+use Rattle.ir_parse_parts.specs.Classes.{tokens}
+use Rattle.ir_parse_operands.specs.ShapeForms.{OPEN_BRACE}
 use Rattle.ir_parse.proofs.Exchanged.{Exchanges, OutcomeAt, Place, Stays, Swaps, angled_behind, apart, is_angled, never_angled, nowhere, same_at, Goes, Outcome, Stuck, fair, alike, ends_in_front, err_ends, err_too, fair_at, fair_of, fewer, in_front, joined, ok_too, stands_for, without}
 
 and_parts : (a b : Bool) → a && b ≡ true → (a ≡ true) × (b ≡ true)

@@ -4,15 +4,15 @@ use Rattle.std.specs.Prelude.{codes}
 use Rattle.ir_lex.specs.Tok.{Tok}
 use Rattle.ir_lex.specs.declared.token_kind.TokenKind.TheVariants as kinds
 use Rattle.ir_tree.specs.declared.operand.Reg.{Reg}
-use Rattle.ir_read.specs.Rules.{is_valued}
-use Rattle.ir_read.specs.Classes.{tokens, refusal}
-use Rattle.ir_operands.specs.ShapeForms.{any_shape}
-use Rattle.ir_operands.specs.ValuesAt.{ADDRESS}
-use Rattle.ir_read.specs.declared.raw.Operand.TheVariants as operands
-use Rattle.ir_read.proofs.Singles.{word}
-use Rattle.ir_read.proofs.Words.{null_real}
-use Rattle.ir_globals.specs.Constants.{CONSTANTS, plain, constant_of, single, constant}
-use Rattle.ir_globals.specs.ConstantsAt.{single_at, constant_at}
+use Rattle.ir_parse_parts.specs.Rules.{is_valued}
+use Rattle.ir_parse_parts.specs.Classes.{tokens, refusal}
+use Rattle.ir_parse_operands.specs.ShapeForms.{any_shape}
+use Rattle.ir_parse_operands.specs.ValuesAt.{ADDRESS}
+use Rattle.ir_parse_parts.specs.declared.raw.Operand.TheVariants as operands
+use Rattle.ir_parse_parts.proofs.Singles.{word}
+use Rattle.ir_parse_parts.proofs.Words.{null_real}
+use Rattle.ir_parse_globals.specs.Constants.{CONSTANTS, plain, constant_of, single, constant}
+use Rattle.ir_parse_globals.specs.ConstantsAt.{single_at, constant_at}
 use Rattle.ir_parse.proofs.Exchanged.{Exchanges, alt, nothing, seq}
 use Rattle.ir_parse.proofs.ExchangedTokens.{valued_sample}
 use Rattle.ir_parse.proofs.ExchangedValues.{address_exchanged}

@@ -6,23 +6,23 @@ use Rattle.ir_lex.specs.Tok.{Tok}
 use Rattle.ir_lex.specs.declared.token_kind.TokenKind.TheVariants as kinds
 use Rattle.ir_lex.specs.declared.token.TokenForm.TheVariants as forms
 use Rattle.ir_tree.specs.declared.function.Linkage.{Linkage}
-use Rattle.ir_read.specs.Alphabet.{among}
-use Rattle.ir_read.specs.Chained.{Chain, chain_at}
-use Rattle.ir_read.specs.Forms as form
-use Rattle.ir_read.specs.Readers.{token_at}
-use Rattle.ir_read.specs.Rules.{is_valued}
-use Rattle.ir_read.specs.declared.fault.TokenFault.{TokenFault}
-use Rattle.ir_heads.specs.Attributes.{parameter_attribute}
-use Rattle.ir_read.specs.Classes.{tokens, one_of, one_of_at}
-use Rattle.ir_heads.specs.FunctionHeads.{linkages_of, linkage_word, QUALIFIERS, nothing_of, linking, qualifying, leading, at_will, prefix, is_local, GLOBAL, NUMBERED, function_name, param, further_param, some_params, params, any_some_params, any_listed_params, any_params, head, any_head, name_refusal}
-use Rattle.ir_heads.specs.FunctionHeadsAt.{LEADING, linking_at, qualifier_at, qualifying_at, leading_at, begins_leading, prefix_at, function_name_at, param_at, further_param_at, params_behind_at, some_params_at, listed_params_at, params_at, head_at}
-use Rattle.ir_read.specs.MetadataAt.{COMMA}
-use Rattle.ir_read.specs.Operands.{LOCAL, global_named, reg_of}
-use Rattle.ir_read.specs.OperandsAt.{reg_at}
-use Rattle.ir_heads.specs.declared.function_heads.Role.TheVariants as roles
-use Rattle.ir_heads.specs.declared.function_heads.Role.{Role}
-use Rattle.ir_heads.proofs.FunctionHeadRules.{leading_rule, named_rule, global_real, external_real, hidden_real}
-use Rattle.ir_read.proofs.Singles.{sample, word}
+use Rattle.ir_parse_parts.specs.Alphabet.{among}
+use Rattle.ir_parse_parts.specs.Chained.{Chain, chain_at}
+use Rattle.ir_parse_parts.specs.Forms as form
+use Rattle.ir_parse_parts.specs.Readers.{token_at}
+use Rattle.ir_parse_parts.specs.Rules.{is_valued}
+use Rattle.ir_parse_parts.specs.declared.fault.TokenFault.{TokenFault}
+use Rattle.ir_parse_heads.specs.Attributes.{parameter_attribute}
+use Rattle.ir_parse_parts.specs.Classes.{tokens, one_of, one_of_at}
+use Rattle.ir_parse_heads.specs.FunctionHeads.{linkages_of, linkage_word, QUALIFIERS, nothing_of, linking, qualifying, leading, at_will, prefix, is_local, GLOBAL, NUMBERED, function_name, param, further_param, some_params, params, any_some_params, any_listed_params, any_params, head, any_head, name_refusal}
+use Rattle.ir_parse_heads.specs.FunctionHeadsAt.{LEADING, linking_at, qualifier_at, qualifying_at, leading_at, begins_leading, prefix_at, function_name_at, param_at, further_param_at, params_behind_at, some_params_at, listed_params_at, params_at, head_at}
+use Rattle.ir_parse_parts.specs.MetadataAt.{COMMA}
+use Rattle.ir_parse_parts.specs.Operands.{LOCAL, global_named, reg_of}
+use Rattle.ir_parse_parts.specs.OperandsAt.{reg_at}
+use Rattle.ir_parse_heads.specs.declared.function_heads.Role.TheVariants as roles
+use Rattle.ir_parse_heads.specs.declared.function_heads.Role.{Role}
+use Rattle.ir_parse_heads.proofs.FunctionHeadRules.{leading_rule, named_rule, global_real, external_real, hidden_real}
+use Rattle.ir_parse_parts.proofs.Singles.{sample, word}
 use Rattle.ir_parse.proofs.Exchanged.{Exchanges, alt, fair, maybe, nothing, seq, taken, up_to}
 use Rattle.ir_parse.proofs.ExchangedAttributes.{parameter_attribute_exchanged, parameter_attributes_exchanged}
 use Rattle.ir_parse.proofs.ExchangedChains.{chain}

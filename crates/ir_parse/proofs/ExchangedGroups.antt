@@ -5,23 +5,23 @@ use Rattle.ir_lex.specs.TokenKinds.{number}
 use Rattle.ir_lex.specs.Tok.{Tok}
 use Rattle.ir_lex.specs.declared.token_kind.TokenKind.TheVariants as kinds
 use Rattle.ir_lex.specs.declared.token_kind.TokenKind.{TokenKind}
-use Rattle.ir_read.proofs.Closings.{closing_lawful}
-use Rattle.ir_read.proofs.Composed.{cut_is, reads, reads_is, widened, wrong_is}
-use Rattle.ir_read.proofs.Rules.{within_of}
-use Rattle.ir_read.specs.Alphabet.{among, contains}
-use Rattle.ir_read.specs.Balanced as balanced
-use Rattle.ir_read.specs.Balanced.{Closing, closing_at, HaveClosers, moved}
-use Rattle.ir_read.specs.Readers.{fault_at}
-use Rattle.ir_read.specs.Rules.{Rule}
-use Rattle.ir_read.specs.declared.fault.Fault.{Fault}
-use Rattle.ir_read.specs.declared.fault.TokenFault.TheVariants.{Syntax}
-use Rattle.ir_read.specs.declared.fault.TokenFault.{TokenFault}
-use Rattle.ir_read.specs.Brackets.{brackets, opening, move_of, group, group_at}
-use Rattle.ir_read.specs.Classes.{tokens, the, the_at}
-use Rattle.ir_read.specs.declared.brackets.Bracket.TheVariants.{Paren, Square, Curly}
-use Rattle.ir_read.specs.declared.brackets.Bracket.{Bracket}
-use Rattle.ir_read.proofs.GroupRules.{EVERY, closer, closer_real, every_class, number_stays}
-use Rattle.ir_operands.specs.ShapeForms.{OPEN_ANGLE}
+use Rattle.ir_parse_parts.proofs.Closings.{closing_lawful}
+use Rattle.ir_parse_parts.proofs.Composed.{cut_is, reads, reads_is, widened, wrong_is}
+use Rattle.ir_parse_parts.proofs.Rules.{within_of}
+use Rattle.ir_parse_parts.specs.Alphabet.{among, contains}
+use Rattle.ir_parse_parts.specs.Balanced as balanced
+use Rattle.ir_parse_parts.specs.Balanced.{Closing, closing_at, HaveClosers, moved}
+use Rattle.ir_parse_parts.specs.Readers.{fault_at}
+use Rattle.ir_parse_parts.specs.Rules.{Rule}
+use Rattle.ir_parse_parts.specs.declared.fault.Fault.{Fault}
+use Rattle.ir_parse_parts.specs.declared.fault.TokenFault.TheVariants.{Syntax}
+use Rattle.ir_parse_parts.specs.declared.fault.TokenFault.{TokenFault}
+use Rattle.ir_parse_parts.specs.Brackets.{brackets, opening, move_of, group, group_at}
+use Rattle.ir_parse_parts.specs.Classes.{tokens, the, the_at}
+use Rattle.ir_parse_parts.specs.declared.brackets.Bracket.TheVariants.{Paren, Square, Curly}
+use Rattle.ir_parse_parts.specs.declared.brackets.Bracket.{Bracket}
+use Rattle.ir_parse_parts.proofs.GroupRules.{EVERY, closer, closer_real, every_class, number_stays}
+use Rattle.ir_parse_operands.specs.ShapeForms.{OPEN_ANGLE}
 use Rattle.ir_parse.proofs.Exchanged.{Exchanges, STEADY, TELLING, anywhere, differ, is_angled, seq}
 use Rattle.ir_parse.proofs.ExchangedWords.{open_brace_exchanged, open_bracket_exchanged, open_paren_exchanged}
 

@@ -12,34 +12,34 @@ use Rattle.ir_lex.specs.declared.token_kind.TokenKind.TheVariants as kinds
 use Rattle.ir_lex.specs.declared.token_kind.TokenKind.{TokenKind}
 use Rattle.ir_lex.specs.declared.token.TokenForm.TheVariants as forms
 use Rattle.ir_tree.specs.declared.operand.Reg.{Reg}
-use Rattle.ir_read.proofs.Composed.{all_real, reads}
-use Rattle.ir_read.specs.Alphabet.{among, contains, AllReal}
-use Rattle.ir_read.specs.Chained.{Chain, chain_at, chain_within}
-use Rattle.ir_read.specs.Forms as form
-use Rattle.ir_read.specs.Readers.{Reader, done, fault_at, follow, ◌>>=◌, token_means, pick, next_is}
-use Rattle.ir_read.specs.Rules.{is_class}
-use Rattle.ir_read.specs.declared.fault.Fault.{Fault}
-use Rattle.ir_read.specs.declared.fault.TokenFault.TheVariants.{Syntax, Profile, Limit}
-use Rattle.ir_read.specs.declared.fault.TokenFault.{TokenFault}
-use Rattle.ir_read.specs.Ahead.{BRACKETS}
-use Rattle.ir_read.specs.Classes.{tokens, IsReal, refusal, the, the_at}
-use Rattle.ir_operands.specs.Extents.{left, shared, whole}
-use Rattle.ir_read.specs.Operands.{memory_refusal}
-use Rattle.ir_operands.specs.ShapeForms.{any_shape, OPEN_BRACKET, OPEN_BRACE, OPEN_ANGLE}
-use Rattle.ir_operands.specs.ShapeFormsAt.{array_at, innermost_at, leaf_at, memory_shape_at, packed_at, shape_at, shape_over_at, structure_at}
-use Rattle.ir_operands.specs.declared.extents.Extent.{Extent}
-use Rattle.ir_operands.specs.declared.extents.Room.{Room}
-use Rattle.ir_read.specs.declared.raw.InitHead.TheVariants as inits
-use Rattle.ir_read.specs.declared.raw.InitPart.TheVariants as init_parts
-use Rattle.ir_read.specs.declared.raw.InitPart.{InitPart}
-use Rattle.ir_read.specs.declared.shape.Typed.{Typed}
-use Rattle.ir_operands.proofs.LeafRules.{LEAF}
-use Rattle.ir_read.proofs.Singles.{sample, word, the_rule}
-use Rattle.ir_globals.specs.Initialisers.{BYTES, zeros, bytes, array_begin, structure_begin, packed_begin, aggregate_begin, beginning, aggregate_of, scalar_of, mark, angle, brace, closing, part_shape, part, begun, closed, piece, outermost, listed, is_none, parts, behind, initialiser, Spot, entered}
-use Rattle.ir_globals.specs.InitialisersAt.{ZEROS, zeros_at, bytes_at, array_begin_at, structure_begin_at, packed_begin_at, aggregate_begin_at, beginning_at, mark_at, angle_at, brace_at, closing_at, part_shape_at, part_at, begun_at, closed_at, CLOSER, piece_at, BEGINNINGS, begins_there, there_at, listed_at, parts_at, behind_at, initialiser_at, SHAPE}
-use Rattle.ir_globals.specs.declared.initialisers.Aggregate.TheVariants as aggregates
-use Rattle.ir_globals.specs.declared.initialisers.Aggregate.{Aggregate}
-use Rattle.ir_globals.proofs.InitialiserRules.{piece_rule}
+use Rattle.ir_parse_parts.proofs.Composed.{all_real, reads}
+use Rattle.ir_parse_parts.specs.Alphabet.{among, contains, AllReal}
+use Rattle.ir_parse_parts.specs.Chained.{Chain, chain_at, chain_within}
+use Rattle.ir_parse_parts.specs.Forms as form
+use Rattle.ir_parse_parts.specs.Readers.{Reader, done, fault_at, follow, ◌>>=◌, token_means, pick, next_is}
+use Rattle.ir_parse_parts.specs.Rules.{is_class}
+use Rattle.ir_parse_parts.specs.declared.fault.Fault.{Fault}
+use Rattle.ir_parse_parts.specs.declared.fault.TokenFault.TheVariants.{Syntax, Profile, Limit}
+use Rattle.ir_parse_parts.specs.declared.fault.TokenFault.{TokenFault}
+use Rattle.ir_parse_parts.specs.Ahead.{BRACKETS}
+use Rattle.ir_parse_parts.specs.Classes.{tokens, IsReal, refusal, the, the_at}
+use Rattle.ir_parse_operands.specs.Extents.{left, shared, whole}
+use Rattle.ir_parse_parts.specs.Operands.{memory_refusal}
+use Rattle.ir_parse_operands.specs.ShapeForms.{any_shape, OPEN_BRACKET, OPEN_BRACE, OPEN_ANGLE}
+use Rattle.ir_parse_operands.specs.ShapeFormsAt.{array_at, innermost_at, leaf_at, memory_shape_at, packed_at, shape_at, shape_over_at, structure_at}
+use Rattle.ir_parse_operands.specs.declared.extents.Extent.{Extent}
+use Rattle.ir_parse_operands.specs.declared.extents.Room.{Room}
+use Rattle.ir_parse_parts.specs.declared.raw.InitHead.TheVariants as inits
+use Rattle.ir_parse_parts.specs.declared.raw.InitPart.TheVariants as init_parts
+use Rattle.ir_parse_parts.specs.declared.raw.InitPart.{InitPart}
+use Rattle.ir_parse_parts.specs.declared.shape.Typed.{Typed}
+use Rattle.ir_parse_operands.proofs.LeafRules.{LEAF}
+use Rattle.ir_parse_parts.proofs.Singles.{sample, word, the_rule}
+use Rattle.ir_parse_globals.specs.Initialisers.{BYTES, zeros, bytes, array_begin, structure_begin, packed_begin, aggregate_begin, beginning, aggregate_of, scalar_of, mark, angle, brace, closing, part_shape, part, begun, closed, piece, outermost, listed, is_none, parts, behind, initialiser, Spot, entered}
+use Rattle.ir_parse_globals.specs.InitialisersAt.{ZEROS, zeros_at, bytes_at, array_begin_at, structure_begin_at, packed_begin_at, aggregate_begin_at, beginning_at, mark_at, angle_at, brace_at, closing_at, part_shape_at, part_at, begun_at, closed_at, CLOSER, piece_at, BEGINNINGS, begins_there, there_at, listed_at, parts_at, behind_at, initialiser_at, SHAPE}
+use Rattle.ir_parse_globals.specs.declared.initialisers.Aggregate.TheVariants as aggregates
+use Rattle.ir_parse_globals.specs.declared.initialisers.Aggregate.{Aggregate}
+use Rattle.ir_parse_globals.proofs.InitialiserRules.{piece_rule}
 use Rattle.ir_parse.proofs.Exchanged.{Exchanges, alt, fair, nothing, recast, same_reader, seq, taken, apart, passed}
 use Rattle.ir_parse.proofs.ExchangedChains.{chain}
 use Rattle.ir_parse.proofs.ExchangedConstants.{constant_exchanged}

@@ -10,38 +10,38 @@ use Rattle.ir_lex.specs.Rows.{best_fit, rest_fit, label_len, number_len, word_le
 use Rattle.ir_lex.specs.Tok.{Tok}
 use Rattle.ir_lex.specs.declared.token_kind.TokenKind.TheVariants as kinds
 use Rattle.ir_lex.specs.declared.token_kind.TokenKind.{TokenKind}
-use Rattle.ir_read.proofs.Composed.{wrong, wrong_is}
-use Rattle.ir_read.proofs.Rules.{within_of}
-use Rattle.ir_read.specs.Alphabet.{among, contains}
-use Rattle.ir_read.specs.Chained.{Chain, chain_at}
-use Rattle.ir_read.specs.Forms as form
-use Rattle.ir_read.specs.Forms.{Form}
-use Rattle.ir_read.specs.Lawful.{ends}
-use Rattle.ir_read.specs.Readers.{Reader, done, fault_at, follow, ◌>>=◌, token_means, pick}
-use Rattle.ir_read.specs.Rules.{disjoint, in_range, is_class, is_valued}
-use Rattle.ir_read.specs.declared.fault.Fault.{Fault}
-use Rattle.ir_read.specs.declared.fault.TokenFault.TheVariants.{Profile, Limit}
-use Rattle.ir_read.specs.declared.fault.TokenFault.{TokenFault}
-use Rattle.ir_heads.specs.AttributesAt.{HEAD, attribute_group_at}
-use Rattle.ir_read.specs.Classes.{tokens, IsReal, refusal, the, the_at}
-use Rattle.ir_heads.specs.FunctionHeads.{name_refusal}
-use Rattle.ir_read.specs.Metadata.{META}
-use Rattle.ir_read.specs.Operands.{LOCAL, REG, global_named}
-use Rattle.ir_operands.specs.ShapeForms.{OPEN_BRACE, any_shape}
-use Rattle.ir_heads.specs.Targets.{STRING, layout_line, triple_line}
-use Rattle.ir_heads.specs.TargetsAt.{comdat_line_at, source_line_at, target_line_at, LAYOUT, layout_line_at, triple_line_at}
-use Rattle.ir_heads.specs.declared.function_heads.Role.TheVariants as roles
-use Rattle.ir_read.specs.declared.places.Before.TheVariants as befores
-use Rattle.ir_read.specs.declared.places.Before.{Before}
-use Rattle.ir_read.specs.declared.places.Position.{Position}
-use Rattle.ir_read.specs.declared.raw.Item.{Item}
-use Rattle.ir_read.proofs.Nodes.{attached_rule}
-use Rattle.ir_read.proofs.Singles.{word, the_rule}
-use Rattle.ir_bodies.specs.BlocksAt.{definition_at}
-use Rattle.ir_globals.specs.TypeDefinitionsAt.{type_line_at}
-use Rattle.ir_globals.specs.Variables.{NAMES}
-use Rattle.ir_globals.specs.VariablesAt.{variable_line_at, variable_name_at}
-use Rattle.ir_bodies.specs.Blocks.{any_definition}
+use Rattle.ir_parse_parts.proofs.Composed.{wrong, wrong_is}
+use Rattle.ir_parse_parts.proofs.Rules.{within_of}
+use Rattle.ir_parse_parts.specs.Alphabet.{among, contains}
+use Rattle.ir_parse_parts.specs.Chained.{Chain, chain_at}
+use Rattle.ir_parse_parts.specs.Forms as form
+use Rattle.ir_parse_parts.specs.Forms.{Form}
+use Rattle.ir_parse_parts.specs.Lawful.{ends}
+use Rattle.ir_parse_parts.specs.Readers.{Reader, done, fault_at, follow, ◌>>=◌, token_means, pick}
+use Rattle.ir_parse_parts.specs.Rules.{disjoint, in_range, is_class, is_valued}
+use Rattle.ir_parse_parts.specs.declared.fault.Fault.{Fault}
+use Rattle.ir_parse_parts.specs.declared.fault.TokenFault.TheVariants.{Profile, Limit}
+use Rattle.ir_parse_parts.specs.declared.fault.TokenFault.{TokenFault}
+use Rattle.ir_parse_heads.specs.AttributesAt.{HEAD, attribute_group_at}
+use Rattle.ir_parse_parts.specs.Classes.{tokens, IsReal, refusal, the, the_at}
+use Rattle.ir_parse_heads.specs.FunctionHeads.{name_refusal}
+use Rattle.ir_parse_parts.specs.Metadata.{META}
+use Rattle.ir_parse_parts.specs.Operands.{LOCAL, REG, global_named}
+use Rattle.ir_parse_operands.specs.ShapeForms.{OPEN_BRACE, any_shape}
+use Rattle.ir_parse_heads.specs.Targets.{STRING, layout_line, triple_line}
+use Rattle.ir_parse_heads.specs.TargetsAt.{comdat_line_at, source_line_at, target_line_at, LAYOUT, layout_line_at, triple_line_at}
+use Rattle.ir_parse_heads.specs.declared.function_heads.Role.TheVariants as roles
+use Rattle.ir_parse_parts.specs.declared.places.Before.TheVariants as befores
+use Rattle.ir_parse_parts.specs.declared.places.Before.{Before}
+use Rattle.ir_parse_parts.specs.declared.places.Position.{Position}
+use Rattle.ir_parse_parts.specs.declared.raw.Item.{Item}
+use Rattle.ir_parse_parts.proofs.Nodes.{attached_rule}
+use Rattle.ir_parse_parts.proofs.Singles.{word, the_rule}
+use Rattle.ir_parse_bodies.specs.BlocksAt.{definition_at}
+use Rattle.ir_parse_globals.specs.TypeDefinitionsAt.{type_line_at}
+use Rattle.ir_parse_globals.specs.Variables.{NAMES}
+use Rattle.ir_parse_globals.specs.VariablesAt.{variable_line_at, variable_name_at}
+use Rattle.ir_parse_bodies.specs.Blocks.{any_definition}
 use Rattle.ir_parse.specs.ItemForms.{left_out, kept, unnamed, attribute_behind, placed, metadata_there, plainly, beside, attached_before, declaration, any_declaration, any_naming, other, any_named, any_piece, anywhere, at_place, ParsedItem}
 use Rattle.ir_parse.specs.ItemFormsAt.{SOURCE, TARGET, COMDAT, DECLARE, NAMING, left_out_at, kept_at, unnamed_at, attribute_behind_at, placed_at, metadata_there_at, plainly_at, beside_at, attached_before_at, declaration_at, other_at, ITEM}
 use Rattle.ir_parse.proofs.ItemRules.{there_rule}

@@ -5,27 +5,27 @@ use Rattle.ir_lex.specs.TokenKinds.{number}
 use Rattle.ir_lex.specs.Tok.{Tok}
 use Rattle.ir_lex.specs.declared.token_kind.TokenKind.TheVariants as kinds
 use Rattle.ir_lex.specs.declared.token_kind.TokenKind.{TokenKind}
-use Rattle.ir_read.specs.Alphabet.{among, contains}
-use Rattle.ir_read.specs.Forms as form
-use Rattle.ir_read.specs.Rules.{is_among, is_class}
-use Rattle.ir_read.specs.declared.fault.TokenFault.{TokenFault}
-use Rattle.ir_instructions.specs.Addressing.{any_slots}
-use Rattle.ir_read.specs.Classes.{one_of, refusal, the, tokens}
-use Rattle.ir_read.specs.Operands.{LOCAL, named}
-use Rattle.ir_read.specs.OperandsAt.{local_at}
-use Rattle.ir_operands.specs.ShapeForms.{any_shape}
-use Rattle.ir_read.proofs.Singles.{word}
-use Rattle.ir_bodies.specs.Blocks.{any_local}
-use Rattle.ir_bodies.specs.Calls.{calling, tail_calling}
-use Rattle.ir_bodies.specs.CallsAt.{calling_at, tail_calling_at}
-use Rattle.ir_bodies.specs.Lines.{GIVING, OPCODES, opcode_by, opcode_of, begun_of, operation, attended, kept, behind, lined, line_behind, named_line, plain_line, line}
-use Rattle.ir_bodies.specs.LinesAt.{operation_at, attended_at, some_at, behind_at, line_behind_at, named_line_at, plain_line_at, line_at}
-use Rattle.ir_bodies.specs.declared.opcodes.Opcode.TheVariants as opcodes
-use Rattle.ir_bodies.specs.declared.opcodes.Opcode.{Opcode}
-use Rattle.ir_bodies.specs.declared.opcodes.Operation.TheVariants as operations
-use Rattle.ir_bodies.specs.declared.opcodes.Operation.{Operation}
-use Rattle.ir_bodies.proofs.LineRules.{any_name}
-use Rattle.ir_bodies.proofs.Samples.{add_real}
+use Rattle.ir_parse_parts.specs.Alphabet.{among, contains}
+use Rattle.ir_parse_parts.specs.Forms as form
+use Rattle.ir_parse_parts.specs.Rules.{is_among, is_class}
+use Rattle.ir_parse_parts.specs.declared.fault.TokenFault.{TokenFault}
+use Rattle.ir_parse_instructions.specs.Addressing.{any_slots}
+use Rattle.ir_parse_parts.specs.Classes.{one_of, refusal, the, tokens}
+use Rattle.ir_parse_parts.specs.Operands.{LOCAL, named}
+use Rattle.ir_parse_parts.specs.OperandsAt.{local_at}
+use Rattle.ir_parse_operands.specs.ShapeForms.{any_shape}
+use Rattle.ir_parse_parts.proofs.Singles.{word}
+use Rattle.ir_parse_bodies.specs.Blocks.{any_local}
+use Rattle.ir_parse_bodies.specs.Calls.{calling, tail_calling}
+use Rattle.ir_parse_bodies.specs.CallsAt.{calling_at, tail_calling_at}
+use Rattle.ir_parse_bodies.specs.Lines.{GIVING, OPCODES, opcode_by, opcode_of, begun_of, operation, attended, kept, behind, lined, line_behind, named_line, plain_line, line}
+use Rattle.ir_parse_bodies.specs.LinesAt.{operation_at, attended_at, some_at, behind_at, line_behind_at, named_line_at, plain_line_at, line_at}
+use Rattle.ir_parse_bodies.specs.declared.opcodes.Opcode.TheVariants as opcodes
+use Rattle.ir_parse_bodies.specs.declared.opcodes.Opcode.{Opcode}
+use Rattle.ir_parse_bodies.specs.declared.opcodes.Operation.TheVariants as operations
+use Rattle.ir_parse_bodies.specs.declared.opcodes.Operation.{Operation}
+use Rattle.ir_parse_bodies.proofs.LineRules.{any_name}
+use Rattle.ir_parse_bodies.proofs.Samples.{add_real}
 use Rattle.ir_parse.specs.NamedCalls.{before_callee, before_named_callee}
 use Rattle.ir_parse.proofs.Exchanged.{differ, Exchanges, Exchanging, Place, Swapping, alt_by, loosened, nothing, nowhere, placed_none, placed_too, recast, seq, seq_into, seq_to, with_value}
 use Rattle.ir_parse.proofs.ExchangedAddressing.{addressing_exchanged, reserving_exchanged}

@@ -5,24 +5,24 @@ use Rattle.ir_lex.specs.TokenKinds.{number}
 use Rattle.ir_lex.specs.Tok.{Tok}
 use Rattle.ir_lex.specs.declared.token_kind.TokenKind.TheVariants as kinds
 use Rattle.ir_lex.specs.declared.token.TokenForm.TheVariants as forms
-use Rattle.ir_read.proofs.Rules.{apart_from}
-use Rattle.ir_read.specs.Alphabet.{among, contains}
-use Rattle.ir_read.specs.Forms as form
-use Rattle.ir_read.specs.Forms.{Form}
-use Rattle.ir_read.specs.Lawful.{ends}
-use Rattle.ir_read.specs.Readers.{Reader, ◌>>=◌, token_at}
-use Rattle.ir_read.specs.Rules.{disjoint}
-use Rattle.ir_read.specs.Runs.{Step, bad, last, onward}
-use Rattle.ir_read.specs.declared.fault.TokenFault.TheVariants.{Syntax}
-use Rattle.ir_read.specs.declared.fault.TokenFault.{TokenFault}
-use Rattle.ir_read.specs.Classes.{tokens}
-use Rattle.ir_read.specs.Metadata.{META, ends_line, line_step}
-use Rattle.ir_read.specs.MetadataAt.{PAREN, CURLY, NAMED}
-use Rattle.ir_read.specs.MetadataBehind.{BANG, BRACES, fitting, line_goes_on, line_rest, goes_on_but, named_node, line_end_or, behind_mark, marked, node_yet, node_or_line, behind_name, metadata_behind}
-use Rattle.ir_read.specs.MetadataBehindAt.{line_rest_at, goes_on_but_at, named_node_at, line_end_or_at, behind_mark_at, marked_at, node_yet_at, node_or_line_at, behind_name_at, metadata_behind_at}
-use Rattle.ir_read.specs.declared.brackets.Bracket.TheVariants.{Paren, Curly}
-use Rattle.ir_read.specs.declared.brackets.Bracket.{Bracket}
-use Rattle.ir_read.proofs.Singles.{bang_real, meta_real, number_real, sample}
+use Rattle.ir_parse_parts.proofs.Rules.{apart_from}
+use Rattle.ir_parse_parts.specs.Alphabet.{among, contains}
+use Rattle.ir_parse_parts.specs.Forms as form
+use Rattle.ir_parse_parts.specs.Forms.{Form}
+use Rattle.ir_parse_parts.specs.Lawful.{ends}
+use Rattle.ir_parse_parts.specs.Readers.{Reader, ◌>>=◌, token_at}
+use Rattle.ir_parse_parts.specs.Rules.{disjoint}
+use Rattle.ir_parse_parts.specs.Runs.{Step, bad, last, onward}
+use Rattle.ir_parse_parts.specs.declared.fault.TokenFault.TheVariants.{Syntax}
+use Rattle.ir_parse_parts.specs.declared.fault.TokenFault.{TokenFault}
+use Rattle.ir_parse_parts.specs.Classes.{tokens}
+use Rattle.ir_parse_parts.specs.Metadata.{META, ends_line, line_step}
+use Rattle.ir_parse_parts.specs.MetadataAt.{PAREN, CURLY, NAMED}
+use Rattle.ir_parse_parts.specs.MetadataBehind.{BANG, BRACES, fitting, line_goes_on, line_rest, goes_on_but, named_node, line_end_or, behind_mark, marked, node_yet, node_or_line, behind_name, metadata_behind}
+use Rattle.ir_parse_parts.specs.MetadataBehindAt.{line_rest_at, goes_on_but_at, named_node_at, line_end_or_at, behind_mark_at, marked_at, node_yet_at, node_or_line_at, behind_name_at, metadata_behind_at}
+use Rattle.ir_parse_parts.specs.declared.brackets.Bracket.TheVariants.{Paren, Curly}
+use Rattle.ir_parse_parts.specs.declared.brackets.Bracket.{Bracket}
+use Rattle.ir_parse_parts.proofs.Singles.{bang_real, meta_real, number_real, sample}
 use Rattle.ir_parse.proofs.Exchanged.{Exchanges, OutcomeAt, Swaps, TELLING, alt_loosely, differ, loosely, maybe, nothing, nothing_after, nowhere, seq, seq_by, seq_loosely, value_loosely}
 use Rattle.ir_parse.proofs.ExchangedGroups.{group_exchanged, telling_stays}
 use Rattle.ir_parse.proofs.ExchangedNodes.{line_after, line_exchanged, stays_in_line}

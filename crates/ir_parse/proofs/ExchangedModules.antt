@@ -6,35 +6,35 @@ use Rattle.ir_lex.specs.TokenKinds.{number}
 use Rattle.ir_lex.specs.Tok.{Tok}
 use Rattle.ir_lex.specs.declared.token_kind.TokenKind.TheVariants as kinds
 use Rattle.ir_lex.specs.declared.token_kind.TokenKind.{TokenKind}
-use Rattle.ir_read.proofs.Composed.{cons_is, cut_is, reads, reads_is, wrong, wrong_is}
-use Rattle.ir_read.proofs.Rules.{within_of}
-use Rattle.ir_read.specs.Alphabet.{among, contains}
-use Rattle.ir_read.specs.Chained.{chain_within, stops_here}
-use Rattle.ir_read.specs.Faults.{Extends}
-use Rattle.ir_read.specs.Forms as form
-use Rattle.ir_read.specs.Lawful.{Broad, IsBound, UpTo, ends}
-use Rattle.ir_read.specs.Readers.{Reader, done, ended, fault_at, follow, ◌>>=◌, pick, whole_of}
-use Rattle.ir_read.specs.declared.fault.Fault.{Fault}
-use Rattle.ir_read.specs.declared.fault.TokenFault.TheVariants.{Syntax, Profile, Number, Limit}
-use Rattle.ir_read.specs.declared.fault.TokenFault.{TokenFault}
-use Rattle.ir_heads.specs.AttributesAt.{HEAD}
-use Rattle.ir_read.specs.Classes.{tokens, refusal}
-use Rattle.ir_heads.specs.FunctionHeads.{NUMBERED, name_refusal}
-use Rattle.ir_read.specs.Metadata.{META}
-use Rattle.ir_heads.specs.Targets.{STRING}
-use Rattle.ir_read.specs.declared.places.Before.TheVariants as befores
-use Rattle.ir_read.specs.declared.places.Before.{Before}
-use Rattle.ir_read.specs.declared.places.Position.{Position}
-use Rattle.ir_read.specs.declared.raw.Item.{Item}
-use Rattle.ir_bodies.specs.BlocksAt.{definition_at}
-use Rattle.ir_globals.specs.Variables.{NAMES}
-use Rattle.ir_globals.specs.VariablesAt.{variable_line_at}
+use Rattle.ir_parse_parts.proofs.Composed.{cons_is, cut_is, reads, reads_is, wrong, wrong_is}
+use Rattle.ir_parse_parts.proofs.Rules.{within_of}
+use Rattle.ir_parse_parts.specs.Alphabet.{among, contains}
+use Rattle.ir_parse_parts.specs.Chained.{chain_within, stops_here}
+use Rattle.ir_parse_parts.specs.Faults.{Extends}
+use Rattle.ir_parse_parts.specs.Forms as form
+use Rattle.ir_parse_parts.specs.Lawful.{Broad, IsBound, UpTo, ends}
+use Rattle.ir_parse_parts.specs.Readers.{Reader, done, ended, fault_at, follow, ◌>>=◌, pick, whole_of}
+use Rattle.ir_parse_parts.specs.declared.fault.Fault.{Fault}
+use Rattle.ir_parse_parts.specs.declared.fault.TokenFault.TheVariants.{Syntax, Profile, Number, Limit}
+use Rattle.ir_parse_parts.specs.declared.fault.TokenFault.{TokenFault}
+use Rattle.ir_parse_heads.specs.AttributesAt.{HEAD}
+use Rattle.ir_parse_parts.specs.Classes.{tokens, refusal}
+use Rattle.ir_parse_heads.specs.FunctionHeads.{NUMBERED, name_refusal}
+use Rattle.ir_parse_parts.specs.Metadata.{META}
+use Rattle.ir_parse_heads.specs.Targets.{STRING}
+use Rattle.ir_parse_parts.specs.declared.places.Before.TheVariants as befores
+use Rattle.ir_parse_parts.specs.declared.places.Before.{Before}
+use Rattle.ir_parse_parts.specs.declared.places.Position.{Position}
+use Rattle.ir_parse_parts.specs.declared.raw.Item.{Item}
+use Rattle.ir_parse_bodies.specs.BlocksAt.{definition_at}
+use Rattle.ir_parse_globals.specs.Variables.{NAMES}
+use Rattle.ir_parse_globals.specs.VariablesAt.{variable_line_at}
 use Rattle.ir_parse.specs.ItemForms.{any_items, any_piece, anywhere, at_place, keep}
 use Rattle.ir_parse.specs.ItemFormsAt.{DECLARE, ITEM, NAMING, beginnings, begins_there, beside_at, declaration_at, first_place, items_at, kept_at, metadata_there_at, named_at, naming_at, other_at, piece_at, plainly_at, there_at}
 use Rattle.ir_parse.specs.Modules.{FURTHER_PARAMETERS, GLOBAL_NAMES, any_module, item_refusal, module_of}
 use Rattle.ir_parse.proofs.ItemRules.{ANY, items_rule, there_rule}
 use Rattle.ir_parse.specs.NamedCalls.{in_module}
-use Rattle.ir_operands.specs.ShapeForms.{OPEN_BRACE}
+use Rattle.ir_parse_operands.specs.ShapeForms.{OPEN_BRACE}
 use Rattle.ir_parse.proofs.Exchanged.{differ, Goes, IsTold, NotTold, Outcome, OutcomeAt, Stays, is_angled, SOMEWHERE, STAND_INS, Stuck, Swaps, placed_too, value_loosely, taken, apart, passed, taken_first}
 use Rattle.ir_parse.proofs.ExchangedItems.{NUMBERED_NAME, STARTS, TYPES, all_items_at, all_items_exchanged, in_items, named_with, naming_with, numbered_is, numbered_told, piece_exchanged, piece_there, piece_with, starts_there, unnamed_refuses, within_at}
 

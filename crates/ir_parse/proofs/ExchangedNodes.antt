@@ -5,23 +5,23 @@ use Rattle.std.specs.Prelude.{codes}
 use Rattle.ir_lex.specs.Tok.{Tok}
 use Rattle.ir_lex.specs.declared.token_kind.TokenKind.TheVariants as kinds
 use Rattle.ir_lex.specs.declared.token.TokenForm.TheVariants as forms
-use Rattle.ir_read.proofs.Composed.{wrong_is, reads}
-use Rattle.ir_read.specs.Alphabet.{among, contains}
-use Rattle.ir_read.specs.Balanced.{Move, none_open, stays}
-use Rattle.ir_read.specs.Readers.{fault_at, done, follow, ◌>>=◌, many_at}
-use Rattle.ir_read.specs.Runs.{Run, Step, bad, last, onward, run_at}
-use Rattle.ir_read.specs.declared.fault.Fault.{Fault}
-use Rattle.ir_read.specs.declared.fault.TokenFault.TheVariants.{Syntax}
-use Rattle.ir_read.specs.declared.fault.TokenFault.{TokenFault}
-use Rattle.ir_read.specs.Brackets.{move_of}
-use Rattle.ir_read.specs.Classes.{one_of, one_of_at, tokens}
-use Rattle.ir_read.specs.Metadata.{META, node, attached, attachment, attachments, ended_by, ends_line, line_step, open_behind, rest_of_line, metadata_line}
-use Rattle.ir_read.specs.MetadataAt.{PAREN, CURLY, NAMED, COMMA, node_at, attached_at, attachment_at, attachments_at, rest_of_line_at, metadata_line_at}
-use Rattle.ir_read.specs.declared.brackets.Bracket.TheVariants.{Paren, Curly}
-use Rattle.ir_read.specs.declared.brackets.Bracket.{Bracket}
-use Rattle.ir_read.proofs.Nodes.{attachment_rule, line_rule}
-use Rattle.ir_read.proofs.Singles.{meta_real, sample}
-use Rattle.ir_read.specs.Lawful.{ends}
+use Rattle.ir_parse_parts.proofs.Composed.{wrong_is, reads}
+use Rattle.ir_parse_parts.specs.Alphabet.{among, contains}
+use Rattle.ir_parse_parts.specs.Balanced.{Move, none_open, stays}
+use Rattle.ir_parse_parts.specs.Readers.{fault_at, done, follow, ◌>>=◌, many_at}
+use Rattle.ir_parse_parts.specs.Runs.{Run, Step, bad, last, onward, run_at}
+use Rattle.ir_parse_parts.specs.declared.fault.Fault.{Fault}
+use Rattle.ir_parse_parts.specs.declared.fault.TokenFault.TheVariants.{Syntax}
+use Rattle.ir_parse_parts.specs.declared.fault.TokenFault.{TokenFault}
+use Rattle.ir_parse_parts.specs.Brackets.{move_of}
+use Rattle.ir_parse_parts.specs.Classes.{one_of, one_of_at, tokens}
+use Rattle.ir_parse_parts.specs.Metadata.{META, node, attached, attachment, attachments, ended_by, ends_line, line_step, open_behind, rest_of_line, metadata_line}
+use Rattle.ir_parse_parts.specs.MetadataAt.{PAREN, CURLY, NAMED, COMMA, node_at, attached_at, attachment_at, attachments_at, rest_of_line_at, metadata_line_at}
+use Rattle.ir_parse_parts.specs.declared.brackets.Bracket.TheVariants.{Paren, Curly}
+use Rattle.ir_parse_parts.specs.declared.brackets.Bracket.{Bracket}
+use Rattle.ir_parse_parts.proofs.Nodes.{attachment_rule, line_rule}
+use Rattle.ir_parse_parts.proofs.Singles.{meta_real, sample}
+use Rattle.ir_parse_parts.specs.Lawful.{ends}
 use Rattle.ir_parse.proofs.Exchanged.{Exchanges, OutcomeAt, Swaps, alt, anywhere, ends_anywhere, loosely, maybe, nothing, nowhere, seq, seq_loosely, star, taken, is_target, target_is}
 use Rattle.ir_parse.proofs.ExchangedGroups.{group_exchanged, steady_stays}
 use Rattle.ir_parse.proofs.ExchangedTokens.{one_sample}

@@ -6,13 +6,13 @@ use Rattle.ir_lex.specs.Tok.{Tok}
 use Rattle.ir_lex.specs.declared.token_kind.TokenKind.TheVariants as kinds
 use Rattle.ir_tree.specs.declared.operand.Reg.TheVariants.{Int, Ptr}
 use Rattle.ir_tree.specs.declared.operand.Reg.{Reg}
-use Rattle.ir_read.specs.Alphabet.{among}
-use Rattle.ir_read.specs.Classes.{tokens}
-use Rattle.ir_read.specs.Operands.{INTEGER, REG, SCALAR, RESULT, LOCAL, NUMBER_OPERAND, POINTER_OPERAND, width, reg_of, is_bit, result_of, reg, integer, bit, scalar, result, named, local, operand_of, simple, maybe}
-use Rattle.ir_read.specs.OperandsAt.{reg_at, integer_at, bit_at, scalar_at, result_at, local_at, simple_at, maybe_at}
-use Rattle.ir_read.proofs.OperandRules.{reg_rule, integer_rule, bit_rule, scalar_rule, result_rule, local_rule, simple_rule}
-use Rattle.ir_read.proofs.Singles.{word}
-use Rattle.ir_read.proofs.Words.{int_32_real, int_1_real}
+use Rattle.ir_parse_parts.specs.Alphabet.{among}
+use Rattle.ir_parse_parts.specs.Classes.{tokens}
+use Rattle.ir_parse_parts.specs.Operands.{INTEGER, REG, SCALAR, RESULT, LOCAL, NUMBER_OPERAND, POINTER_OPERAND, width, reg_of, is_bit, result_of, reg, integer, bit, scalar, result, named, local, operand_of, simple, maybe}
+use Rattle.ir_parse_parts.specs.OperandsAt.{reg_at, integer_at, bit_at, scalar_at, result_at, local_at, simple_at, maybe_at}
+use Rattle.ir_parse_parts.proofs.OperandRules.{reg_rule, integer_rule, bit_rule, scalar_rule, result_rule, local_rule, simple_rule}
+use Rattle.ir_parse_parts.proofs.Singles.{word}
+use Rattle.ir_parse_parts.proofs.Words.{int_32_real, int_1_real}
 use Rattle.ir_parse.specs.Refusals.{MEMORY}
 use Rattle.ir_parse.proofs.Exchanged.{Exchanges, alt, nothing, seq}
 use Rattle.ir_parse.proofs.ExchangedTokens.{exact_type, i8_real, memory_one, plain_valued, type_one}

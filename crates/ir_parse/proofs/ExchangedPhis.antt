@@ -3,16 +3,16 @@ use Rattle.std.proofs.Common.{Bool, true, false, Option, [], refl}
 use Rattle.ir_lex.specs.TokenKinds.{number}
 use Rattle.ir_lex.specs.declared.token_kind.TokenKind.TheVariants as kinds
 use Rattle.ir_tree.specs.declared.operand.Reg.{Reg}
-use Rattle.ir_read.specs.Chained.{Chain, chain_at}
-use Rattle.ir_read.specs.Rules.{is_class}
-use Rattle.ir_read.specs.Classes.{tokens, refusal}
-use Rattle.ir_read.specs.Metadata.{META}
-use Rattle.ir_read.specs.MetadataAt.{COMMA}
-use Rattle.ir_instructions.specs.Phis as phis
-use Rattle.ir_instructions.specs.Phis.{incoming, attaching, entering, behind_comma, further, entries, phi_of, phi}
-use Rattle.ir_instructions.specs.PhisAt.{begins, incoming_at, attaching_at, entering_at, behind_comma_at, further_at, entries_at, phi_of_at, phi_at}
-use Rattle.ir_operands.specs.ShapeForms.{any_shape}
-use Rattle.ir_read.specs.declared.raw.Incoming.{Incoming}
+use Rattle.ir_parse_parts.specs.Chained.{Chain, chain_at}
+use Rattle.ir_parse_parts.specs.Rules.{is_class}
+use Rattle.ir_parse_parts.specs.Classes.{tokens, refusal}
+use Rattle.ir_parse_parts.specs.Metadata.{META}
+use Rattle.ir_parse_parts.specs.MetadataAt.{COMMA}
+use Rattle.ir_parse_instructions.specs.Phis as phis
+use Rattle.ir_parse_instructions.specs.Phis.{incoming, attaching, entering, behind_comma, further, entries, phi_of, phi}
+use Rattle.ir_parse_instructions.specs.PhisAt.{begins, incoming_at, attaching_at, entering_at, behind_comma_at, further_at, entries_at, phi_of_at, phi_at}
+use Rattle.ir_parse_operands.specs.ShapeForms.{any_shape}
+use Rattle.ir_parse_parts.specs.declared.raw.Incoming.{Incoming}
 use Rattle.ir_parse.proofs.Exchanged.{Exchanges, alt, nothing, seq, token_begins}
 use Rattle.ir_parse.proofs.ExchangedChains.{chain}
 use Rattle.ir_parse.proofs.ExchangedNodes.{attached_exchanged}

@@ -4,16 +4,16 @@ use Rattle.ir_lex.specs.TokenKinds.{number}
 use Rattle.ir_lex.specs.Tok.{Tok}
 use Rattle.ir_lex.specs.declared.token_kind.TokenKind.TheVariants as kinds
 use Rattle.ir_lex.specs.declared.token_kind.TokenKind.{TokenKind}
-use Rattle.ir_read.proofs.Composed.{wrong}
-use Rattle.ir_read.proofs.Rules.{within_of}
-use Rattle.ir_read.specs.Alphabet.{among, contains}
-use Rattle.ir_read.specs.declared.fault.TokenFault.TheVariants.{Syntax, Profile}
-use Rattle.ir_read.specs.declared.fault.TokenFault.{TokenFault}
-use Rattle.ir_read.specs.Classes.{IsReal, tokens}
-use Rattle.ir_heads.specs.FunctionHeads.{GLOBAL, NUMBERED}
-use Rattle.ir_read.specs.Operands.{REG}
-use Rattle.ir_heads.specs.Targets.{STRING}
-use Rattle.ir_operands.specs.ShapeForms.{OPEN_BRACE}
+use Rattle.ir_parse_parts.proofs.Composed.{wrong}
+use Rattle.ir_parse_parts.proofs.Rules.{within_of}
+use Rattle.ir_parse_parts.specs.Alphabet.{among, contains}
+use Rattle.ir_parse_parts.specs.declared.fault.TokenFault.TheVariants.{Syntax, Profile}
+use Rattle.ir_parse_parts.specs.declared.fault.TokenFault.{TokenFault}
+use Rattle.ir_parse_parts.specs.Classes.{IsReal, tokens}
+use Rattle.ir_parse_heads.specs.FunctionHeads.{GLOBAL, NUMBERED}
+use Rattle.ir_parse_parts.specs.Operands.{REG}
+use Rattle.ir_parse_heads.specs.Targets.{STRING}
+use Rattle.ir_parse_operands.specs.ShapeForms.{OPEN_BRACE}
 use Rattle.ir_parse.specs.Modules.{any_module, module_of}
 use Rattle.ir_parse.specs.NamedCalls.{in_module}
 use Rattle.ir_parse.specs.Refusals.{BeginsVector, GoesOn, INTEGER, LeftOut, MARKER, MEMORY, NoneGoesOn, REFUSED_EVERYWHERE, SomeGoesOn, StringGoesOn, TARGET, TYPE, WORD, everywhere, of_integer, of_marker, of_name, of_target, of_type, of_vector}

@@ -5,36 +5,36 @@ use Rattle.std.specs.Prelude.{codes}
 use Rattle.ir_lex.specs.TokenKinds.{number}
 use Rattle.ir_lex.specs.Tok.{Tok}
 use Rattle.ir_lex.specs.declared.token_kind.TokenKind.TheVariants as kinds
-use Rattle.ir_read.specs.Alphabet.{among}
-use Rattle.ir_read.specs.Chained.{Chain, chain_at}
-use Rattle.ir_read.proofs.Composed.{cons_is}
-use Rattle.ir_read.specs.Alphabet.{AllReal}
-use Rattle.ir_read.specs.Forms as form
-use Rattle.ir_read.specs.Forms.{Form}
-use Rattle.ir_read.specs.Lawful.{IsBound, ends}
-use Rattle.ir_read.specs.Readers.{Reader, fault_at, follow, ◌>>=◌, token_means}
-use Rattle.ir_read.specs.Rules.{in_range, is_class, is_valued}
-use Rattle.ir_read.specs.declared.fault.TokenFault.TheVariants.{Number, Limit, Profile}
-use Rattle.ir_read.specs.declared.fault.Fault.{Fault}
-use Rattle.ir_read.specs.declared.fault.TokenFault.{TokenFault}
+use Rattle.ir_parse_parts.specs.Alphabet.{among}
+use Rattle.ir_parse_parts.specs.Chained.{Chain, chain_at}
+use Rattle.ir_parse_parts.proofs.Composed.{cons_is}
+use Rattle.ir_parse_parts.specs.Alphabet.{AllReal}
+use Rattle.ir_parse_parts.specs.Forms as form
+use Rattle.ir_parse_parts.specs.Forms.{Form}
+use Rattle.ir_parse_parts.specs.Lawful.{IsBound, ends}
+use Rattle.ir_parse_parts.specs.Readers.{Reader, fault_at, follow, ◌>>=◌, token_means}
+use Rattle.ir_parse_parts.specs.Rules.{in_range, is_class, is_valued}
+use Rattle.ir_parse_parts.specs.declared.fault.TokenFault.TheVariants.{Number, Limit, Profile}
+use Rattle.ir_parse_parts.specs.declared.fault.Fault.{Fault}
+use Rattle.ir_parse_parts.specs.declared.fault.TokenFault.{TokenFault}
 use Rattle.ir_lex.specs.declared.token_kind.TokenKind.{TokenKind}
-use Rattle.ir_read.specs.Ahead.{BRACKETS}
-use Rattle.ir_read.specs.Classes.{tokens, IsReal, refusal, the, the_at}
-use Rattle.ir_operands.specs.Extents.{extent_of, grown, left, no_bytes, room_for, shared, whole}
-use Rattle.ir_read.specs.MetadataAt.{COMMA}
-use Rattle.ir_read.specs.Operands.{SCALAR, memory_refusal}
-use Rattle.ir_operands.specs.ShapeForms.{NUMBER, OPEN_ANGLE, OPEN_BRACE, OPEN_BRACKET, angle_refusal, anywhere, any_shape, array_of, brace_behind_angle, count, count_of, elements, further, has_room, is_leaf, leaf, leaf_means, line_of, members, more_members, packed_behind, packed_of, scalar_align, scalar_typed, shape_over, structure_of, type_name}
-use Rattle.ir_operands.specs.ShapeFormsAt.{CLOSE_BRACE, leaf_at, innermost_at, count_at, elements_at, array_at, further_at, begins, more_members_at, members_at, structure_at, brace_behind_angle_at, packed_behind_at, packed_at, shape_over_at, shape_at, memory_shape_at}
-use Rattle.ir_read.specs.Shapes.{Written}
-use Rattle.ir_operands.specs.declared.extents.Align.TheVariants.{One, Two, Four, Eight}
-use Rattle.ir_operands.specs.declared.extents.Align.{Align}
-use Rattle.ir_operands.specs.declared.extents.Extent.{Extent}
-use Rattle.ir_operands.specs.declared.extents.Room.{Room}
-use Rattle.ir_read.specs.declared.shape.Typed.{Typed}
-use Rattle.ir_operands.proofs.LeafRules.{LEAF, brace_behind_angle_rule, count_rule, leaf_rule, times_rule}
-use Rattle.ir_operands.proofs.ShapeRules.{nested}
-use Rattle.ir_read.proofs.Singles.{mark, open_angle_real, open_brace_real, open_bracket_real, word}
-use Rattle.ir_read.proofs.Words.{int_32_real}
+use Rattle.ir_parse_parts.specs.Ahead.{BRACKETS}
+use Rattle.ir_parse_parts.specs.Classes.{tokens, IsReal, refusal, the, the_at}
+use Rattle.ir_parse_operands.specs.Extents.{extent_of, grown, left, no_bytes, room_for, shared, whole}
+use Rattle.ir_parse_parts.specs.MetadataAt.{COMMA}
+use Rattle.ir_parse_parts.specs.Operands.{SCALAR, memory_refusal}
+use Rattle.ir_parse_operands.specs.ShapeForms.{NUMBER, OPEN_ANGLE, OPEN_BRACE, OPEN_BRACKET, angle_refusal, anywhere, any_shape, array_of, brace_behind_angle, count, count_of, elements, further, has_room, is_leaf, leaf, leaf_means, line_of, members, more_members, packed_behind, packed_of, scalar_align, scalar_typed, shape_over, structure_of, type_name}
+use Rattle.ir_parse_operands.specs.ShapeFormsAt.{CLOSE_BRACE, leaf_at, innermost_at, count_at, elements_at, array_at, further_at, begins, more_members_at, members_at, structure_at, brace_behind_angle_at, packed_behind_at, packed_at, shape_over_at, shape_at, memory_shape_at}
+use Rattle.ir_parse_parts.specs.Shapes.{Written}
+use Rattle.ir_parse_operands.specs.declared.extents.Align.TheVariants.{One, Two, Four, Eight}
+use Rattle.ir_parse_operands.specs.declared.extents.Align.{Align}
+use Rattle.ir_parse_operands.specs.declared.extents.Extent.{Extent}
+use Rattle.ir_parse_operands.specs.declared.extents.Room.{Room}
+use Rattle.ir_parse_parts.specs.declared.shape.Typed.{Typed}
+use Rattle.ir_parse_operands.proofs.LeafRules.{LEAF, brace_behind_angle_rule, count_rule, leaf_rule, times_rule}
+use Rattle.ir_parse_operands.proofs.ShapeRules.{nested}
+use Rattle.ir_parse_parts.proofs.Singles.{mark, open_angle_real, open_brace_real, open_bracket_real, word}
+use Rattle.ir_parse_parts.proofs.Words.{int_32_real}
 use Rattle.ir_parse.specs.Refusals.{MEMORY}
 use Rattle.ir_parse.proofs.Exchanged.{Exchanges, Goes, IsTold, OutcomeAt, Stuck, Swaps, alt, barred, differ, err_ends, nothing, nowhere, recast, same_at, seq, seq_by, single, token_begins}
 use Rattle.ir_parse.proofs.ExchangedChains.{chain}

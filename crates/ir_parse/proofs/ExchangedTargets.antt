@@ -10,20 +10,20 @@ use Rattle.ir_lex.specs.Tok.{Tok}
 use Rattle.ir_lex.specs.declared.token_kind.TokenKind.TheVariants as kinds
 use Rattle.ir_lex.specs.declared.token_kind.TokenKind.{TokenKind}
 use Rattle.ir_lex.specs.declared.token.TokenForm.TheVariants as forms
-use Rattle.ir_read.specs.Alphabet.{among, contains}
-use Rattle.ir_read.specs.Forms as form
-use Rattle.ir_read.specs.Lawful.{IsBound}
-use Rattle.ir_read.specs.Readers.{token_at}
-use Rattle.ir_read.specs.Rules.{is_class, disjoint}
-use Rattle.ir_read.specs.declared.fault.TokenFault.TheVariants.{Profile}
-use Rattle.ir_read.specs.declared.fault.TokenFault.{TokenFault}
-use Rattle.ir_read.specs.Classes.{tokens, IsReal, refusal, the, the_at, one_of, one_of_at, itself}
-use Rattle.ir_read.specs.Operands.{REG}
-use Rattle.ir_heads.specs.Targets.{STRING, fits_item, has_64_bits, fits_layout, is_layout, layout_line, triple_line, target_line, source_line, comdat_line}
-use Rattle.ir_heads.specs.TargetsAt.{LAYOUT, layout_line_at, triple_line_at, target_line_at, source_line_at, comdat_line_at}
-use Rattle.ir_read.specs.declared.raw.Item.TheVariants.{Datalayout, Triple}
-use Rattle.ir_read.proofs.Singles.{sample, word, the_rule, string_real}
-use Rattle.ir_operands.specs.ShapeForms.{OPEN_ANGLE}
+use Rattle.ir_parse_parts.specs.Alphabet.{among, contains}
+use Rattle.ir_parse_parts.specs.Forms as form
+use Rattle.ir_parse_parts.specs.Lawful.{IsBound}
+use Rattle.ir_parse_parts.specs.Readers.{token_at}
+use Rattle.ir_parse_parts.specs.Rules.{is_class, disjoint}
+use Rattle.ir_parse_parts.specs.declared.fault.TokenFault.TheVariants.{Profile}
+use Rattle.ir_parse_parts.specs.declared.fault.TokenFault.{TokenFault}
+use Rattle.ir_parse_parts.specs.Classes.{tokens, IsReal, refusal, the, the_at, one_of, one_of_at, itself}
+use Rattle.ir_parse_parts.specs.Operands.{REG}
+use Rattle.ir_parse_heads.specs.Targets.{STRING, fits_item, has_64_bits, fits_layout, is_layout, layout_line, triple_line, target_line, source_line, comdat_line}
+use Rattle.ir_parse_heads.specs.TargetsAt.{LAYOUT, layout_line_at, triple_line_at, target_line_at, source_line_at, comdat_line_at}
+use Rattle.ir_parse_parts.specs.declared.raw.Item.TheVariants.{Datalayout, Triple}
+use Rattle.ir_parse_parts.proofs.Singles.{sample, word, the_rule, string_real}
+use Rattle.ir_parse_operands.specs.ShapeForms.{OPEN_ANGLE}
 use Rattle.ir_parse.specs.Refusals.{MEMORY}
 use Rattle.ir_parse.proofs.Exchanged.{Exchanges, Says, alt, nothing, seq, single, apart}
 use Rattle.ir_parse.proofs.ExchangedTokens.{elsewhere, i8_real, one_sample, plain_class, not_bound}

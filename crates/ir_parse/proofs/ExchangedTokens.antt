@@ -9,23 +9,23 @@ use Rattle.ir_lex.specs.Rows.{best_fit, rest_fit, label_len, number_len, word_le
 use Rattle.ir_lex.specs.Tok.{Tok}
 use Rattle.ir_lex.specs.declared.token_kind.TokenKind.TheVariants as kinds
 use Rattle.ir_lex.specs.declared.token_kind.TokenKind.{TokenKind}
-use Rattle.ir_read.proofs.Rules.{within_of}
-use Rattle.ir_read.specs.Alphabet.{among, contains}
-use Rattle.ir_read.specs.Forms as form
-use Rattle.ir_read.specs.Forms.{Form}
-use Rattle.ir_read.specs.Lawful.{IsBound}
-use Rattle.ir_read.specs.Readers.{token_at, Reader, fault_at, follow, ◌>>=◌, token_means}
-use Rattle.ir_read.specs.Rules.{Rule, disjoint, in_range, is_among, is_class, is_exact, is_valued}
-use Rattle.ir_read.specs.declared.fault.TokenFault.TheVariants.{Syntax, Profile, Number, Limit}
-use Rattle.ir_read.specs.declared.fault.TokenFault.{TokenFault}
-use Rattle.ir_read.specs.Classes.{tokens, IsReal, refusal, the, the_at, one_of, one_of_at}
-use Rattle.ir_heads.specs.FunctionHeads.{name_refusal}
-use Rattle.ir_read.specs.Operands.{REG, memory_refusal, type_refusal}
-use Rattle.ir_heads.specs.Targets.{STRING}
-use Rattle.ir_operands.specs.ShapeForms.{OPEN_ANGLE, angle_refusal}
-use Rattle.ir_heads.proofs.FunctionHeadRules.{name_not_number, name_not_limit}
-use Rattle.ir_read.proofs.OperandRules.{type_not_number, type_not_limit, memory_not_number, memory_not_limit}
-use Rattle.ir_read.proofs.Singles.{word, not_number, not_limit}
+use Rattle.ir_parse_parts.proofs.Rules.{within_of}
+use Rattle.ir_parse_parts.specs.Alphabet.{among, contains}
+use Rattle.ir_parse_parts.specs.Forms as form
+use Rattle.ir_parse_parts.specs.Forms.{Form}
+use Rattle.ir_parse_parts.specs.Lawful.{IsBound}
+use Rattle.ir_parse_parts.specs.Readers.{token_at, Reader, fault_at, follow, ◌>>=◌, token_means}
+use Rattle.ir_parse_parts.specs.Rules.{Rule, disjoint, in_range, is_among, is_class, is_exact, is_valued}
+use Rattle.ir_parse_parts.specs.declared.fault.TokenFault.TheVariants.{Syntax, Profile, Number, Limit}
+use Rattle.ir_parse_parts.specs.declared.fault.TokenFault.{TokenFault}
+use Rattle.ir_parse_parts.specs.Classes.{tokens, IsReal, refusal, the, the_at, one_of, one_of_at}
+use Rattle.ir_parse_heads.specs.FunctionHeads.{name_refusal}
+use Rattle.ir_parse_parts.specs.Operands.{REG, memory_refusal, type_refusal}
+use Rattle.ir_parse_heads.specs.Targets.{STRING}
+use Rattle.ir_parse_operands.specs.ShapeForms.{OPEN_ANGLE, angle_refusal}
+use Rattle.ir_parse_heads.proofs.FunctionHeadRules.{name_not_number, name_not_limit}
+use Rattle.ir_parse_parts.proofs.OperandRules.{type_not_number, type_not_limit, memory_not_number, memory_not_limit}
+use Rattle.ir_parse_parts.proofs.Singles.{word, not_number, not_limit}
 use Rattle.ir_parse.specs.Refusals.{MEMORY, WORD}
 use Rattle.ir_parse.proofs.Exchanged.{Exchanges, Goes, Place, TELLING, Says, SaysAt, Swaps, differ, nowhere, single, single_at, stands_for, apart, a_type, is_target, target_is}
 

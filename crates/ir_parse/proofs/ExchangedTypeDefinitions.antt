@@ -7,12 +7,12 @@ use Rattle.ir_lex.specs.Lexing.{is_bad}
 use Rattle.ir_lex.specs.Quotes.{is_zero_name}
 use Rattle.ir_lex.specs.Rows.{best_fit, rest_fit, label_len, number_len, word_len, name_len, meta_len, dots_len, other_len, string_len}
 use Rattle.ir_lex.specs.declared.token_kind.TokenKind.TheVariants as kinds
-use Rattle.ir_read.specs.Rules.{is_class}
-use Rattle.ir_read.specs.Classes.{IsReal, the, the_at}
-use Rattle.ir_operands.specs.ShapeForms.{any_shape}
-use Rattle.ir_read.proofs.Singles.{word, the_rule}
-use Rattle.ir_globals.specs.TypeDefinitions.{defined, type_line}
-use Rattle.ir_globals.specs.TypeDefinitionsAt.{OPAQUE, defined_at, type_line_at}
+use Rattle.ir_parse_parts.specs.Rules.{is_class}
+use Rattle.ir_parse_parts.specs.Classes.{IsReal, the, the_at}
+use Rattle.ir_parse_operands.specs.ShapeForms.{any_shape}
+use Rattle.ir_parse_parts.proofs.Singles.{word, the_rule}
+use Rattle.ir_parse_globals.specs.TypeDefinitions.{defined, type_line}
+use Rattle.ir_parse_globals.specs.TypeDefinitionsAt.{OPAQUE, defined_at, type_line_at}
 use Rattle.ir_parse.proofs.Exchanged.{Exchanges, alt, nothing, seq}
 use Rattle.ir_parse.proofs.ExchangedOperands.{local_exchanged}
 use Rattle.ir_parse.proofs.ExchangedShapes.{memory_shape_exchanged}

@@ -5,16 +5,16 @@ use Rattle.ir_lex.specs.TokenKinds.{number}
 use Rattle.ir_lex.specs.Tok.{Tok}
 use Rattle.ir_lex.specs.declared.token_kind.TokenKind.TheVariants as kinds
 use Rattle.ir_lex.specs.declared.token_kind.TokenKind.{TokenKind}
-use Rattle.ir_read.specs.Alphabet.{among, contains}
-use Rattle.ir_read.specs.Forms as form
-use Rattle.ir_read.specs.Forms.{Form, Star}
-use Rattle.ir_read.specs.Readers.{Reader, done, fault_at, follow, ◌>>=◌, token_means, token_at, pick, many_at, star_at}
-use Rattle.ir_read.specs.Rules.{is_among, is_class}
-use Rattle.ir_read.specs.declared.fault.Fault.{Fault}
-use Rattle.ir_read.specs.declared.fault.TokenFault.TheVariants.{Profile}
-use Rattle.ir_read.specs.declared.fault.TokenFault.{TokenFault}
-use Rattle.ir_read.specs.Classes.{tokens, refusal, the, the_at}
-use Rattle.ir_read.specs.Operands.{REFUSED_TYPES, REG, type_refusal}
+use Rattle.ir_parse_parts.specs.Alphabet.{among, contains}
+use Rattle.ir_parse_parts.specs.Forms as form
+use Rattle.ir_parse_parts.specs.Forms.{Form, Star}
+use Rattle.ir_parse_parts.specs.Readers.{Reader, done, fault_at, follow, ◌>>=◌, token_means, token_at, pick, many_at, star_at}
+use Rattle.ir_parse_parts.specs.Rules.{is_among, is_class}
+use Rattle.ir_parse_parts.specs.declared.fault.Fault.{Fault}
+use Rattle.ir_parse_parts.specs.declared.fault.TokenFault.TheVariants.{Profile}
+use Rattle.ir_parse_parts.specs.declared.fault.TokenFault.{TokenFault}
+use Rattle.ir_parse_parts.specs.Classes.{tokens, refusal, the, the_at}
+use Rattle.ir_parse_parts.specs.Operands.{REFUSED_TYPES, REG, type_refusal}
 use Rattle.ir_parse.specs.Refusals.{WORD}
 use Rattle.ir_parse.proofs.Exchanged.{Exchanges, alt, nothing, recast, same_reader, seq, star, apart}
 

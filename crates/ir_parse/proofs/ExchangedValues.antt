@@ -8,21 +8,21 @@ use Rattle.ir_lex.specs.Quotes.{is_zero_name}
 use Rattle.ir_lex.specs.Rows.{best_fit, rest_fit, label_len, number_len, word_len, name_len, meta_len, dots_len, other_len, string_len}
 use Rattle.ir_lex.specs.declared.token_kind.TokenKind.TheVariants as kinds
 use Rattle.ir_tree.specs.declared.operand.Reg.{Reg}
-use Rattle.ir_read.proofs.Rules as rules
-use Rattle.ir_read.specs.Forms.{Star}
-use Rattle.ir_read.specs.Rules.{is_class}
-use Rattle.ir_read.specs.Ahead.{STEPPING}
-use Rattle.ir_read.specs.Classes.{tokens, IsReal, the, the_at, one_of, one_of_at}
-use Rattle.ir_read.specs.MetadataAt.{COMMA}
-use Rattle.ir_read.specs.Operands.{global_named, type_refusal}
-use Rattle.ir_operands.specs.ShapeForms.{any_shape}
-use Rattle.ir_operands.specs.Values.{is_inbounds, stepping, NUMBER, index_of, index_number, index, GLOBAL, global, closing_one, closing, opened, opening, reached, address_behind, address, operand, argument, pointer}
-use Rattle.ir_operands.specs.ValuesAt.{ADDRESS, pointer_at, stepping_at, index_number_at, index_at, indices_at, closing_one_at, closing_at, opened_at, opening_at, openings_at, global_at, reached_at, address_behind_at, address_at, operand_at, argument_at}
-use Rattle.ir_read.specs.declared.shape.Typed.{Typed}
-use Rattle.ir_read.proofs.OperandRules.{type_not_number, type_not_limit}
-use Rattle.ir_read.proofs.Singles.{word, the_rule}
-use Rattle.ir_operands.proofs.ValueRules.{flag_rule, global_rule, index_number_rule, index_rule, opening_rule}
-use Rattle.ir_read.proofs.Words.{pointer_real}
+use Rattle.ir_parse_parts.proofs.Rules as rules
+use Rattle.ir_parse_parts.specs.Forms.{Star}
+use Rattle.ir_parse_parts.specs.Rules.{is_class}
+use Rattle.ir_parse_parts.specs.Ahead.{STEPPING}
+use Rattle.ir_parse_parts.specs.Classes.{tokens, IsReal, the, the_at, one_of, one_of_at}
+use Rattle.ir_parse_parts.specs.MetadataAt.{COMMA}
+use Rattle.ir_parse_parts.specs.Operands.{global_named, type_refusal}
+use Rattle.ir_parse_operands.specs.ShapeForms.{any_shape}
+use Rattle.ir_parse_operands.specs.Values.{is_inbounds, stepping, NUMBER, index_of, index_number, index, GLOBAL, global, closing_one, closing, opened, opening, reached, address_behind, address, operand, argument, pointer}
+use Rattle.ir_parse_operands.specs.ValuesAt.{ADDRESS, pointer_at, stepping_at, index_number_at, index_at, indices_at, closing_one_at, closing_at, opened_at, opening_at, openings_at, global_at, reached_at, address_behind_at, address_at, operand_at, argument_at}
+use Rattle.ir_parse_parts.specs.declared.shape.Typed.{Typed}
+use Rattle.ir_parse_parts.proofs.OperandRules.{type_not_number, type_not_limit}
+use Rattle.ir_parse_parts.proofs.Singles.{word, the_rule}
+use Rattle.ir_parse_operands.proofs.ValueRules.{flag_rule, global_rule, index_number_rule, index_rule, opening_rule}
+use Rattle.ir_parse_parts.proofs.Words.{pointer_real}
 use Rattle.ir_parse.proofs.Exchanged.{Exchanges, alt, nothing, seq, star, taken}
 use Rattle.ir_parse.proofs.ExchangedOperands.{integer_exchanged, reg_exchanged, simple_exchanged}
 use Rattle.ir_parse.proofs.ExchangedShapes.{memory_shape_exchanged}

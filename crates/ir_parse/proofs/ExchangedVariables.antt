@@ -6,23 +6,23 @@ use Rattle.ir_lex.specs.declared.token_kind.TokenKind.TheVariants as kinds
 use Rattle.ir_lex.specs.declared.token.TokenForm.TheVariants as forms
 use Rattle.ir_tree.specs.declared.function.Linkage.{Linkage}
 use Rattle.ir_tree.specs.declared.operand.Reg.{Reg}
-use Rattle.ir_read.specs.Alphabet.{among}
-use Rattle.ir_read.specs.Forms as form
-use Rattle.ir_read.specs.Readers as reader
-use Rattle.ir_read.specs.Readers.{pick}
-use Rattle.ir_read.specs.Rules.{is_class}
-use Rattle.ir_read.specs.Classes.{tokens, the, the_at, one_of, one_of_at}
-use Rattle.ir_heads.specs.FunctionHeads.{LINKAGES, linkage_word, QUALIFIERS, nothing_of}
-use Rattle.ir_instructions.specs.InstructionsAt.{ALIGN}
-use Rattle.ir_read.specs.MetadataAt.{COMMA, PAREN}
-use Rattle.ir_read.specs.Operands.{global_named}
-use Rattle.ir_operands.specs.ShapeForms.{any_shape}
-use Rattle.ir_heads.proofs.FunctionHeadRules.{external_real, named_rule, global_real}
-use Rattle.ir_read.proofs.Singles.{sample, word, the_rule}
-use Rattle.ir_globals.specs.Initialisers.{scalar_of}
-use Rattle.ir_globals.specs.Variables.{NAMES, any_variable_name, qualifiers, linked, KINDS, is_constant, is_declared, value, comdat_name, in_comdat, aligned, marked, further, tail, behind_kind, variable_line}
-use Rattle.ir_globals.specs.VariablesAt.{variable_name_at, qualifiers_at, linked_at, value_at, comdat_name_at, in_comdat_at, aligned_at, marked_at, COMDAT, further_at, tail_at, behind_kind_at, variable_line_at}
-use Rattle.ir_globals.proofs.VariableRules.{any_name, comdat_real, constant_real, further_rule, named_comdat_real, qualifier_word_rule}
+use Rattle.ir_parse_parts.specs.Alphabet.{among}
+use Rattle.ir_parse_parts.specs.Forms as form
+use Rattle.ir_parse_parts.specs.Readers as reader
+use Rattle.ir_parse_parts.specs.Readers.{pick}
+use Rattle.ir_parse_parts.specs.Rules.{is_class}
+use Rattle.ir_parse_parts.specs.Classes.{tokens, the, the_at, one_of, one_of_at}
+use Rattle.ir_parse_heads.specs.FunctionHeads.{LINKAGES, linkage_word, QUALIFIERS, nothing_of}
+use Rattle.ir_parse_instructions.specs.InstructionsAt.{ALIGN}
+use Rattle.ir_parse_parts.specs.MetadataAt.{COMMA, PAREN}
+use Rattle.ir_parse_parts.specs.Operands.{global_named}
+use Rattle.ir_parse_operands.specs.ShapeForms.{any_shape}
+use Rattle.ir_parse_heads.proofs.FunctionHeadRules.{external_real, named_rule, global_real}
+use Rattle.ir_parse_parts.proofs.Singles.{sample, word, the_rule}
+use Rattle.ir_parse_globals.specs.Initialisers.{scalar_of}
+use Rattle.ir_parse_globals.specs.Variables.{NAMES, any_variable_name, qualifiers, linked, KINDS, is_constant, is_declared, value, comdat_name, in_comdat, aligned, marked, further, tail, behind_kind, variable_line}
+use Rattle.ir_parse_globals.specs.VariablesAt.{variable_name_at, qualifiers_at, linked_at, value_at, comdat_name_at, in_comdat_at, aligned_at, marked_at, COMDAT, further_at, tail_at, behind_kind_at, variable_line_at}
+use Rattle.ir_parse_globals.proofs.VariableRules.{any_name, comdat_real, constant_real, further_rule, named_comdat_real, qualifier_word_rule}
 use Rattle.ir_parse.proofs.Exchanged.{Exchanges, alt, maybe, nothing, recast, seq, star, taken}
 use Rattle.ir_parse.proofs.ExchangedAttributes.{alignment_exchanged}
 use Rattle.ir_parse.proofs.ExchangedInitialisers.{initialiser_exchanged}

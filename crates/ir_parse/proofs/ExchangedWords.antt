@@ -1,9 +1,9 @@
 -- Words and marks tell a token that is left out in some places against the syntax.
 use Rattle.std.proofs.Common.{false, true, refl}
 use Rattle.ir_lex.specs.declared.token_kind.TokenKind.TheVariants as kinds
-use Rattle.ir_read.specs.Classes.{the, the_at}
-use Rattle.ir_read.proofs.Singles.{align_rule, attributes_rule, bang_rule, close_angle_rule, close_brace_rule, close_bracket_rule, close_paren_rule, comma_rule, equals_rule, group_name_rule, meta_rule, number_rule, open_angle_rule, open_brace_rule, open_bracket_rule, open_paren_rule, parameter_group_rule, parameter_word_rule, string_rule}
-use Rattle.ir_read.proofs.Words.{disjoint_rule, exact_rule, label_rule, nneg_rule, samesign_rule, to_rule}
+use Rattle.ir_parse_parts.specs.Classes.{the, the_at}
+use Rattle.ir_parse_parts.proofs.Singles.{align_rule, attributes_rule, bang_rule, close_angle_rule, close_brace_rule, close_bracket_rule, close_paren_rule, comma_rule, equals_rule, group_name_rule, meta_rule, number_rule, open_angle_rule, open_brace_rule, open_bracket_rule, open_paren_rule, parameter_group_rule, parameter_word_rule, string_rule}
+use Rattle.ir_parse_parts.proofs.Words.{disjoint_rule, exact_rule, label_rule, nneg_rule, samesign_rule, to_rule}
 use Rattle.ir_parse.proofs.Exchanged.{Exchanges, Swaps, nowhere}
 use Rattle.ir_parse.proofs.ExchangedTokens.{loose_class, plain_class}
 

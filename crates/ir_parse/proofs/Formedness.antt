@@ -5,11 +5,11 @@ use Rattle.std.specs.List.{AllZip, AllByRecursion as Each, cons_option}
 use Rattle.std.proofs.lemmas.List.{map-append}
 use Rattle.std.proofs.lemmas.List.Elements.{All-from_recursion, recursion_from_All}
 use Rattle.ir_lex.specs.Tok.{Tok}
-use Rattle.ir_read.specs.declared.raw.Block as raw_block
-use Rattle.ir_read.specs.declared.raw.FunctionHeader as raw_head
-use Rattle.ir_read.specs.declared.raw.Variable as raw_variable
-use Rattle.ir_read.specs.declared.raw.Item.{Item}
-use Rattle.ir_read.specs.declared.raw.Item.TheVariants as item
+use Rattle.ir_parse_parts.specs.declared.raw.Block as raw_block
+use Rattle.ir_parse_parts.specs.declared.raw.FunctionHeader as raw_head
+use Rattle.ir_parse_parts.specs.declared.raw.Variable as raw_variable
+use Rattle.ir_parse_parts.specs.declared.raw.Item.{Item}
+use Rattle.ir_parse_parts.specs.declared.raw.Item.TheVariants as item
 use Rattle.ir_tree.specs.Formed.{Distinct, Formed}
 use Rattle.ir_tree.specs.Items.{items}
 use Rattle.ir_tree.specs.Wholes.{GlobalFormed, GlobalKnown, HasLines, IsParsed, VariableFormed, symbols}
@@ -19,17 +19,17 @@ use Rattle.ir_tree.specs.declared.module.GlobalValue.{GlobalValue}
 use Rattle.ir_tree.specs.declared.module.GlobalValue.TheVariants as global
 use Rattle.ir_tree.specs.declared.module.Module.{Module}
 use Rattle.ir_tree.specs.declared.operand.Symbol.{Symbol}
-use Rattle.ir_names.specs.declared.groups.Groups.{Groups}
-use Rattle.named_values.specs.Blocks.{function_in}
-use Rattle.ir_names.specs.Globals.{Globals, no_globals}
-use Rattle.ir_names.specs.Groups.{groups_of, is_noinline, is_optnone}
-use Rattle.ir_names.specs.Marks.{all, block_marks, item_marks, marks_of, typed_marks, init_marks}
-use Rattle.ir_names.specs.Resolving.{◌>>=◌}
-use Rattle.ir_names.specs.Stages.{global_names, globals_named, marks_within}
-use Rattle.ir_names.specs.Symbols.{symbol_name, symbol_of}
-use Rattle.ir_names.specs.TypeNames.{type_names}
-use Rattle.ir_names.specs.Types.{Types}
-use Rattle.ir_names.specs.Variables.{variable_in}
+use Rattle.ir_parse_names.specs.declared.groups.Groups.{Groups}
+use Rattle.ir_parse_values.specs.Blocks.{function_in}
+use Rattle.ir_parse_names.specs.Globals.{Globals, no_globals}
+use Rattle.ir_parse_names.specs.Groups.{groups_of, is_noinline, is_optnone}
+use Rattle.ir_parse_names.specs.Marks.{all, block_marks, item_marks, marks_of, typed_marks, init_marks}
+use Rattle.ir_parse_names.specs.Resolving.{◌>>=◌}
+use Rattle.ir_parse_names.specs.Stages.{global_names, globals_named, marks_within}
+use Rattle.ir_parse_names.specs.Symbols.{symbol_name, symbol_of}
+use Rattle.ir_parse_names.specs.TypeNames.{type_names}
+use Rattle.ir_parse_names.specs.Types.{Types}
+use Rattle.ir_parse_names.specs.Variables.{variable_in}
 use Rattle.ir_parse.specs.LineLaws.{LinesFit}
 use Rattle.ir_parse.specs.Lines.{item_lines, lines_of, block_lines}
 use Rattle.ir_parse.specs.Resolved.{FunctionsAreFormed, VariablesAreFormed}

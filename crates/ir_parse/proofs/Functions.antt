@@ -3,18 +3,18 @@ use Rattle.std.proofs.Common.{◌≡◌, ℕ, ◌+◌, Bool, true, List, [], ◌
 use Rattle.std.specs.Prelude.{slice_get}
 use Rattle.std.specs.List.{AllByRecursion as Each}
 use Rattle.std.proofs.lemmas.List.Elements.{All-from_recursion, recursion_from_All}
-use Rattle.ir_read.specs.declared.raw.Block as raw_block
-use Rattle.ir_read.specs.declared.raw.FunctionHeader.{FunctionHeader}
-use Rattle.ir_read.specs.declared.raw.Param as raw_param
+use Rattle.ir_parse_parts.specs.declared.raw.Block as raw_block
+use Rattle.ir_parse_parts.specs.declared.raw.FunctionHeader.{FunctionHeader}
+use Rattle.ir_parse_parts.specs.declared.raw.Param as raw_param
 use Rattle.ir_tree.specs.Flow.{holds, locals}
 use Rattle.ir_tree.specs.Formed.{Distinct, Formed, IsBlock, IsLocal, IsReg, numbers}
 use Rattle.ir_tree.specs.declared.block.Block as tree_block
 use Rattle.ir_tree.specs.declared.function.Function.{Function}
-use Rattle.ir_names.specs.declared.locals.Sort.TheVariants.{Value, Block}
-use Rattle.named_values.specs.Blocks.{blocks_in, blocks_of, function_in, params_from}
-use Rattle.ir_names.specs.Locals.{LocalTable}
-use Rattle.ir_names.specs.Symbols.{symbol_of}
-use Rattle.ir_names.specs.Types.{Types}
+use Rattle.ir_parse_names.specs.declared.locals.Sort.TheVariants.{Value, Block}
+use Rattle.ir_parse_values.specs.Blocks.{blocks_in, blocks_of, function_in, params_from}
+use Rattle.ir_parse_names.specs.Locals.{LocalTable}
+use Rattle.ir_parse_names.specs.Symbols.{symbol_of}
+use Rattle.ir_parse_names.specs.Types.{Types}
 use Rattle.ir_parse.specs.Resolved.{DefinitionsDiffer, FunctionsAreFormed}
 use Rattle.ir_parse.specs.Written.{BlockWritten, IsWritten, TypesWritten}
 use Rattle.ir_parse.proofs.Gives.{Gives, gives, bind}

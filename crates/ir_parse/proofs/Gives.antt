@@ -1,7 +1,7 @@
 -- What holds of a result where there is one.
 use Rattle.std.proofs.Common.{◌≡◌, refl, subst, List, [], ◌∷◌, Result, Ok, Err}
 use Rattle.std.specs.List.{AllByRecursion as Each}
-use Rattle.ir_names.specs.Resolving.{◌>>=◌, each}
+use Rattle.ir_parse_names.specs.Resolving.{◌>>=◌, each}
 
 pub record Gives {A E : Type 0} (r : Result A E) (P : A → Type 0) : Type 0 where
   pub given : (x : A) → r ≡ Ok x → P x

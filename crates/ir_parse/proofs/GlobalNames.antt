@@ -7,31 +7,31 @@ use Rattle.std.proofs.lemmas.List.{append-nil, map-append}
 use Rattle.std.proofs.lemmas.List.Elements.{Contains-append_left, Contains-append_right, Contains-push_cases}
 use Rattle.std.proofs.lemmas.Slice.Eq.{bytes_eq-Decides}
 use Rattle.ir_lex.specs.Tok.{Tok}
-use Rattle.ir_read.specs.declared.address.Level.{Level}
-use Rattle.ir_read.specs.declared.raw.Block as raw_block
-use Rattle.ir_read.specs.declared.raw.Init as raw_init
-use Rattle.ir_read.specs.declared.raw.InitHead as raw_head
-use Rattle.ir_read.specs.declared.raw.InitHead.TheVariants as rh
-use Rattle.ir_read.specs.declared.raw.InitPart as raw_part
-use Rattle.ir_read.specs.declared.raw.InitPart.TheVariants as rp
-use Rattle.ir_read.specs.declared.raw.Instr as raw_instr
-use Rattle.ir_read.specs.declared.raw.Instr.TheVariants as ri
-use Rattle.ir_read.specs.declared.raw.Item.{Item}
-use Rattle.ir_read.specs.declared.raw.Item.TheVariants as item
-use Rattle.ir_read.specs.declared.raw.Operand as raw_operand
-use Rattle.ir_read.specs.declared.raw.Operand.TheVariants as ro
-use Rattle.ir_read.specs.declared.raw.Terminator as raw_end
-use Rattle.ir_read.specs.declared.raw.Terminator.TheVariants as re
-use Rattle.ir_read.specs.declared.shape.Typed.{Typed}
-use Rattle.ir_read.specs.Shapes as shapes
-use Rattle.ir_read.specs.Shapes.{Written, WrittenParts}
+use Rattle.ir_parse_parts.specs.declared.address.Level.{Level}
+use Rattle.ir_parse_parts.specs.declared.raw.Block as raw_block
+use Rattle.ir_parse_parts.specs.declared.raw.Init as raw_init
+use Rattle.ir_parse_parts.specs.declared.raw.InitHead as raw_head
+use Rattle.ir_parse_parts.specs.declared.raw.InitHead.TheVariants as rh
+use Rattle.ir_parse_parts.specs.declared.raw.InitPart as raw_part
+use Rattle.ir_parse_parts.specs.declared.raw.InitPart.TheVariants as rp
+use Rattle.ir_parse_parts.specs.declared.raw.Instr as raw_instr
+use Rattle.ir_parse_parts.specs.declared.raw.Instr.TheVariants as ri
+use Rattle.ir_parse_parts.specs.declared.raw.Item.{Item}
+use Rattle.ir_parse_parts.specs.declared.raw.Item.TheVariants as item
+use Rattle.ir_parse_parts.specs.declared.raw.Operand as raw_operand
+use Rattle.ir_parse_parts.specs.declared.raw.Operand.TheVariants as ro
+use Rattle.ir_parse_parts.specs.declared.raw.Terminator as raw_end
+use Rattle.ir_parse_parts.specs.declared.raw.Terminator.TheVariants as re
+use Rattle.ir_parse_parts.specs.declared.shape.Typed.{Typed}
+use Rattle.ir_parse_parts.specs.Shapes as shapes
+use Rattle.ir_parse_parts.specs.Shapes.{Written, WrittenParts}
 use Rattle.ir_tree.specs.declared.operand.Symbol.{Symbol}
-use Rattle.ir_names.specs.Globals.{Globals, no_globals, has_name, is_low, counted_by, with_global}
-use Rattle.ir_names.specs.Keys.{number_of}
-use Rattle.ir_names.specs.Locals.{twice, unknown}
-use Rattle.ir_names.specs.Marks.{Mark, type_name, type_use, shape, many, global, symbol, address, uses, all_uses, uses_if, level_uses, all, operand_marks, both, instr_marks, end_marks, block_marks, head_marks, part_marks, init_marks, item_marks, marks_of}
-use Rattle.ir_names.specs.Stages.{if_there, named, all_named, with_global_name, global_names, globals_named}
-use Rattle.ir_names.specs.Symbols.{symbol_name, symbol_of}
+use Rattle.ir_parse_names.specs.Globals.{Globals, no_globals, has_name, is_low, counted_by, with_global}
+use Rattle.ir_parse_names.specs.Keys.{number_of}
+use Rattle.ir_parse_names.specs.Locals.{twice, unknown}
+use Rattle.ir_parse_names.specs.Marks.{Mark, type_name, type_use, shape, many, global, symbol, address, uses, all_uses, uses_if, level_uses, all, operand_marks, both, instr_marks, end_marks, block_marks, head_marks, part_marks, init_marks, item_marks, marks_of}
+use Rattle.ir_parse_names.specs.Stages.{if_there, named, all_named, with_global_name, global_names, globals_named}
+use Rattle.ir_parse_names.specs.Symbols.{symbol_name, symbol_of}
 use Rattle.ir_parse.proofs.Gives.{Gives, gives, fails, bind}
 use Rattle.ir_parse.proofs.Marked.{MarkKnown, MarksKnown}
 use Rattle.ir_parse.proofs.Once.{Once, once_push, unfound}

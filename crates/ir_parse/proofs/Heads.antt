@@ -5,12 +5,12 @@ use Rattle.std.specs.Prelude.{IfSome}
 use Rattle.ir_lex.specs.TokenKinds.{number}
 use Rattle.ir_lex.specs.declared.token_kind.TokenKind as class
 use Rattle.ir_lex.specs.declared.token_kind.TokenKind.TheVariants as kinds
-use Rattle.ir_read.specs.Alphabet.{contains}
-use Rattle.ir_heads.specs.FunctionHeads.{further_param, head, leading, linkage_by, linkages_of, linking, listed_params, param, params, prefix, qualifying, some_params, with_linkage}
-use Rattle.ir_heads.specs.declared.function_heads.Role.{Role}
-use Rattle.ir_heads.specs.declared.function_heads.Role.TheVariants as roles
-use Rattle.ir_read.specs.declared.raw.FunctionHeader.{FunctionHeader}
-use Rattle.ir_read.specs.declared.raw.Param.{Param}
+use Rattle.ir_parse_parts.specs.Alphabet.{contains}
+use Rattle.ir_parse_heads.specs.FunctionHeads.{further_param, head, leading, linkage_by, linkages_of, linking, listed_params, param, params, prefix, qualifying, some_params, with_linkage}
+use Rattle.ir_parse_heads.specs.declared.function_heads.Role.{Role}
+use Rattle.ir_parse_heads.specs.declared.function_heads.Role.TheVariants as roles
+use Rattle.ir_parse_parts.specs.declared.raw.FunctionHeader.{FunctionHeader}
+use Rattle.ir_parse_parts.specs.declared.raw.Param.{Param}
 use Rattle.ir_tree.specs.Formed.{IsReg, IsResult}
 use Rattle.ir_tree.specs.declared.function.Linkage.{Linkage}
 use Rattle.ir_tree.specs.declared.function.Linkage.TheVariants.{External}

@@ -2,23 +2,23 @@
 use Rattle.std.proofs.Common.{◌≡◌, ℕ, Bool, true, false, List, [], ◌∷◌, Option, Some, None, subst, arith}
 use Rattle.std.specs.List.{AllByRecursion as Each}
 use Rattle.std.proofs.lemmas.List.Elements.{All-from_recursion}
-use Rattle.ir_globals.specs.Constants.{constant, constant_by, number_of, plain, single, type_of}
-use Rattle.ir_globals.specs.Initialisers.{aggregate_begin, aggregate_of, array_begin, beginning, begun, behind, bytes, closed, initialiser, listed, packed_begin, part, part_shape, parts, piece, scalar_of, structure_begin, zeros}
-use Rattle.ir_globals.specs.declared.initialisers.Aggregate.{Aggregate}
+use Rattle.ir_parse_globals.specs.Constants.{constant, constant_by, number_of, plain, single, type_of}
+use Rattle.ir_parse_globals.specs.Initialisers.{aggregate_begin, aggregate_of, array_begin, beginning, begun, behind, bytes, closed, initialiser, listed, packed_begin, part, part_shape, parts, piece, scalar_of, structure_begin, zeros}
+use Rattle.ir_parse_globals.specs.declared.initialisers.Aggregate.{Aggregate}
 use Rattle.ir_lex.specs.Tok.{Tok}
 use Rattle.ir_lex.specs.declared.token_kind.TokenKind.{TokenKind}
 use Rattle.ir_lex.specs.declared.token_kind.TokenKind.TheVariants as kinds
-use Rattle.ir_read.proofs.LiteralRange.{literal_fits}
-use Rattle.ir_read.specs.Literals.{literal}
-use Rattle.ir_operands.specs.ShapeForms.{memory_shape}
-use Rattle.ir_read.specs.Shapes as written
-use Rattle.ir_read.specs.Shapes.{Written}
-use Rattle.ir_read.specs.declared.raw.InitHead.{InitHead}
-use Rattle.ir_read.specs.declared.raw.InitHead.TheVariants as inits
-use Rattle.ir_read.specs.declared.raw.InitPart.{InitPart}
-use Rattle.ir_read.specs.declared.raw.InitPart.TheVariants as init_parts
-use Rattle.ir_read.specs.Operands.{named}
-use Rattle.ir_read.specs.declared.raw.Operand.TheVariants as operands
+use Rattle.ir_parse_parts.proofs.LiteralRange.{literal_fits}
+use Rattle.ir_parse_parts.specs.Literals.{literal}
+use Rattle.ir_parse_operands.specs.ShapeForms.{memory_shape}
+use Rattle.ir_parse_parts.specs.Shapes as written
+use Rattle.ir_parse_parts.specs.Shapes.{Written}
+use Rattle.ir_parse_parts.specs.declared.raw.InitHead.{InitHead}
+use Rattle.ir_parse_parts.specs.declared.raw.InitHead.TheVariants as inits
+use Rattle.ir_parse_parts.specs.declared.raw.InitPart.{InitPart}
+use Rattle.ir_parse_parts.specs.declared.raw.InitPart.TheVariants as init_parts
+use Rattle.ir_parse_parts.specs.Operands.{named}
+use Rattle.ir_parse_parts.specs.declared.raw.Operand.TheVariants as operands
 use Rattle.ir_tree.specs.Formed.{IsReg, IsResult}
 use Rattle.ir_tree.specs.declared.operand.Reg.{Reg}
 use Rattle.ir_tree.specs.declared.operand.Reg.TheVariants.{Int, Ptr}

@@ -2,9 +2,9 @@
 use Rattle.std.proofs.Common.{◌≡◌, ℕ, Bool, true, false, inl, inr, List, [], ◌∷◌, Option, None, refl, arith}
 use Rattle.std.specs.List.{fold}
 use Rattle.ir_lex.specs.Tok.{Tok}
-use Rattle.ir_instructions.specs.Instructions.{casting, comparing, dividing, extending, flags, freezing, joining, loading, narrowing, no_flags, on_two, selecting, storing, with_wrap, wrapping, wraps}
-use Rattle.ir_operands.specs.ShapeForms.{memory_shape}
-use Rattle.ir_read.specs.declared.raw.Instr.{Instr}
+use Rattle.ir_parse_instructions.specs.Instructions.{casting, comparing, dividing, extending, flags, freezing, joining, loading, narrowing, no_flags, on_two, selecting, storing, with_wrap, wrapping, wraps}
+use Rattle.ir_parse_operands.specs.ShapeForms.{memory_shape}
+use Rattle.ir_parse_parts.specs.declared.raw.Instr.{Instr}
 use Rattle.ir_tree.specs.Formed.{FlagsFormed, IsReg, IsScalar, IsStored, IsWidth}
 use Rattle.ir_tree.specs.declared.instr.BinaryOp.{BinaryOp}
 use Rattle.ir_tree.specs.declared.instr.BinaryOp.TheVariants as ops

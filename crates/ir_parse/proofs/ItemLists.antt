@@ -8,17 +8,17 @@ use Rattle.ir_parse.specs.Modules.{FURTHER_PARAMETERS, GLOBAL_NAMES, whole_modul
 use Rattle.ir_lex.specs.TokenKinds.{number}
 use Rattle.ir_lex.specs.Tok.{Tok}
 use Rattle.ir_lex.specs.declared.token_kind.TokenKind.TheVariants as kinds
-use Rattle.ir_read.specs.Forms.{Form}
-use Rattle.ir_heads.specs.Attributes.{attribute_group}
-use Rattle.ir_operands.specs.ShapeForms.{memory_shape}
-use Rattle.ir_heads.specs.Targets.{layout_line, target_line, triple_line}
-use Rattle.ir_heads.specs.declared.function_heads.Role.TheVariants as roles
-use Rattle.ir_read.specs.declared.places.Before.{Before}
-use Rattle.ir_read.specs.declared.places.Before.TheVariants as befores
-use Rattle.ir_read.specs.declared.places.Position.{Position}
-use Rattle.ir_read.specs.declared.raw.FunctionHeader.{FunctionHeader}
-use Rattle.ir_read.specs.declared.raw.Item.{Item}
-use Rattle.ir_read.specs.declared.raw.Item.TheVariants.{Declaration}
+use Rattle.ir_parse_parts.specs.Forms.{Form}
+use Rattle.ir_parse_heads.specs.Attributes.{attribute_group}
+use Rattle.ir_parse_operands.specs.ShapeForms.{memory_shape}
+use Rattle.ir_parse_heads.specs.Targets.{layout_line, target_line, triple_line}
+use Rattle.ir_parse_heads.specs.declared.function_heads.Role.TheVariants as roles
+use Rattle.ir_parse_parts.specs.declared.places.Before.{Before}
+use Rattle.ir_parse_parts.specs.declared.places.Before.TheVariants as befores
+use Rattle.ir_parse_parts.specs.declared.places.Position.{Position}
+use Rattle.ir_parse_parts.specs.declared.raw.FunctionHeader.{FunctionHeader}
+use Rattle.ir_parse_parts.specs.declared.raw.Item.{Item}
+use Rattle.ir_parse_parts.specs.declared.raw.Item.TheVariants.{Declaration}
 use Rattle.ir_tree.specs.Formed.{IsReg}
 use Rattle.ir_parse.specs.Written.{BlockWritten}
 use Rattle.ir_parse.specs.Items.{ItemWritten}

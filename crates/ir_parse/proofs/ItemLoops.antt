@@ -2,17 +2,17 @@
 use Rattle.std.proofs.Common.{◌≡◌, ◌<◌, ℕ, suc, Bool, true, false, not, Option, List, [], ◌∷◌, length, Result, Ok, refl, sym, ap, ◌∙◌}
 use Rattle.std.specs.List.{fold}
 use Rattle.ir_lex.specs.Tok.{Tok}
-use Rattle.ir_read.specs.Chained.{stops_here, chain_within, chain_at}
-use Rattle.ir_read.specs.declared.fault.Fault.{Fault}
+use Rattle.ir_parse_parts.specs.Chained.{stops_here, chain_within, chain_at}
+use Rattle.ir_parse_parts.specs.declared.fault.Fault.{Fault}
 use Rattle.ir_tree.specs.declared.failure.Failure.{Failure}
 use Rattle.ir_tree.specs.declared.failure.Failure.TheVariants as errors
-use Rattle.ir_read.specs.Readers.{Reader, Fails, done, follow, ◌>>=◌, folded, next_is}
-use Rattle.ir_read.specs.Alphabet.{among}
-use Rattle.ir_read.proofs.ChainLoops.{chain_on}
-use Rattle.ir_read.proofs.Stars.{takes, folded_is}
-use Rattle.ir_read.specs.Classes.{tokens}
-use Rattle.ir_read.specs.declared.places.Position.{Position}
-use Rattle.ir_read.specs.declared.raw.Item.{Item}
+use Rattle.ir_parse_parts.specs.Readers.{Reader, Fails, done, follow, ◌>>=◌, folded, next_is}
+use Rattle.ir_parse_parts.specs.Alphabet.{among}
+use Rattle.ir_parse_parts.proofs.ChainLoops.{chain_on}
+use Rattle.ir_parse_parts.proofs.Stars.{takes, folded_is}
+use Rattle.ir_parse_parts.specs.Classes.{tokens}
+use Rattle.ir_parse_parts.specs.declared.places.Position.{Position}
+use Rattle.ir_parse_parts.specs.declared.raw.Item.{Item}
 use Rattle.ir_parse.specs.ItemForms.{anywhere, keep}
 use Rattle.ir_parse.specs.ItemFormsAt.{beginnings, begins_there, there_at, first_place, items_at}
 use Rattle.ir_parse.specs.Putting.{behind_at}

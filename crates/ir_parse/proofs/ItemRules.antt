@@ -8,43 +8,43 @@ use Rattle.ir_lex.specs.Lexing.{is_bad}
 use Rattle.ir_lex.specs.Quotes.{is_zero_name}
 use Rattle.ir_lex.specs.Tok.{Tok}
 use Rattle.ir_lex.specs.Rows.{best_fit, rest_fit, label_len, number_len, word_len, name_len, meta_len, dots_len, other_len, string_len}
-use Rattle.ir_read.specs.Alphabet.{among, contains}
-use Rattle.ir_read.specs.Chained.{Chain, chain_at}
-use Rattle.ir_read.specs.Forms as form
-use Rattle.ir_read.specs.declared.fault.TokenFault.TheVariants.{Limit}
-use Rattle.ir_read.specs.Readers.{fault_at, pick}
-use Rattle.ir_read.specs.Rules.{Rule, Opens, is_class, disjoint, subset}
-use Rattle.ir_read.proofs.Chains.{chain_lawful}
-use Rattle.ir_read.proofs.Composed.{Begun, same_form, widened}
-use Rattle.ir_read.proofs.Rules as rules
-use Rattle.ir_read.proofs.Rules.{apart_from, contains-append, within_of}
-use Rattle.ir_bodies.specs.Blocks.{any_definition}
-use Rattle.ir_bodies.specs.BlocksAt.{DEFINE}
-use Rattle.ir_bodies.proofs.BlockRules.{definition_rule, definition_opens}
-use Rattle.ir_globals.specs.Variables.{NAMES, any_variable_name, variable_line}
-use Rattle.ir_globals.proofs.TypeDefinitionRules.{type_line_rule}
-use Rattle.ir_globals.proofs.VariableRules.{variable_line_rule, variable_line_opens}
-use Rattle.ir_heads.specs.AttributesAt.{HEAD}
-use Rattle.ir_read.specs.Classes.{tokens, IsReal, the, the_at}
-use Rattle.ir_heads.specs.declared.function_heads.Role.TheVariants as roles
-use Rattle.ir_read.specs.declared.raw.Item.{Item}
-use Rattle.ir_read.specs.declared.places.Before.{Before}
-use Rattle.ir_read.specs.declared.places.Before.TheVariants as befores
-use Rattle.ir_read.specs.declared.places.Position.{Position}
+use Rattle.ir_parse_parts.specs.Alphabet.{among, contains}
+use Rattle.ir_parse_parts.specs.Chained.{Chain, chain_at}
+use Rattle.ir_parse_parts.specs.Forms as form
+use Rattle.ir_parse_parts.specs.declared.fault.TokenFault.TheVariants.{Limit}
+use Rattle.ir_parse_parts.specs.Readers.{fault_at, pick}
+use Rattle.ir_parse_parts.specs.Rules.{Rule, Opens, is_class, disjoint, subset}
+use Rattle.ir_parse_parts.proofs.Chains.{chain_lawful}
+use Rattle.ir_parse_parts.proofs.Composed.{Begun, same_form, widened}
+use Rattle.ir_parse_parts.proofs.Rules as rules
+use Rattle.ir_parse_parts.proofs.Rules.{apart_from, contains-append, within_of}
+use Rattle.ir_parse_bodies.specs.Blocks.{any_definition}
+use Rattle.ir_parse_bodies.specs.BlocksAt.{DEFINE}
+use Rattle.ir_parse_bodies.proofs.BlockRules.{definition_rule, definition_opens}
+use Rattle.ir_parse_globals.specs.Variables.{NAMES, any_variable_name, variable_line}
+use Rattle.ir_parse_globals.proofs.TypeDefinitionRules.{type_line_rule}
+use Rattle.ir_parse_globals.proofs.VariableRules.{variable_line_rule, variable_line_opens}
+use Rattle.ir_parse_heads.specs.AttributesAt.{HEAD}
+use Rattle.ir_parse_parts.specs.Classes.{tokens, IsReal, the, the_at}
+use Rattle.ir_parse_heads.specs.declared.function_heads.Role.TheVariants as roles
+use Rattle.ir_parse_parts.specs.declared.raw.Item.{Item}
+use Rattle.ir_parse_parts.specs.declared.places.Before.{Before}
+use Rattle.ir_parse_parts.specs.declared.places.Before.TheVariants as befores
+use Rattle.ir_parse_parts.specs.declared.places.Position.{Position}
 use Rattle.ir_parse.specs.ItemForms.{left_out, kept, unnamed, attribute_behind, placed, metadata_there, plainly, beside, attached_before, declaration, any_declaration, naming, any_naming, at_place, other, any_named, named, piece, any_piece, anywhere, items, any_items}
 use Rattle.ir_parse.specs.ItemFormsAt.{SOURCE, TARGET, COMDAT, DECLARE, UNNAMED, NAMING, ITEM, beginnings, left_out_at, kept_at, unnamed_at, attribute_behind_at, placed_at, metadata_there_at, plainly_at, beside_at, attached_before_at, declaration_at, naming_at, other_at, named_at, piece_at, begins_there, there_at, first_place, items_at}
-use Rattle.ir_read.specs.Metadata.{META}
-use Rattle.ir_read.specs.MetadataAt.{PAREN}
-use Rattle.ir_read.specs.MetadataBehind.{BRACES}
-use Rattle.ir_read.specs.Operands.{LOCAL}
-use Rattle.ir_operands.specs.ShapeForms.{any_shape, memory_shape}
-use Rattle.ir_heads.proofs.AttributeRules.{head_attribute_rule, attribute_group_rule}
-use Rattle.ir_operands.proofs.Barred.{barred_here}
-use Rattle.ir_heads.proofs.FunctionHeadRules.{head_rule}
-use Rattle.ir_read.proofs.MetadataBehindRules.{metadata_behind_rule, node_yet_rule}
-use Rattle.ir_read.proofs.Nodes.{attached_rule, attached_opens, metadata_line_rule}
-use Rattle.ir_read.proofs.Singles.{word, the_rule, the_opens}
-use Rattle.ir_heads.proofs.TargetRules.{target_line_rule, source_line_rule, comdat_line_rule}
+use Rattle.ir_parse_parts.specs.Metadata.{META}
+use Rattle.ir_parse_parts.specs.MetadataAt.{PAREN}
+use Rattle.ir_parse_parts.specs.MetadataBehind.{BRACES}
+use Rattle.ir_parse_parts.specs.Operands.{LOCAL}
+use Rattle.ir_parse_operands.specs.ShapeForms.{any_shape, memory_shape}
+use Rattle.ir_parse_heads.proofs.AttributeRules.{head_attribute_rule, attribute_group_rule}
+use Rattle.ir_parse_operands.proofs.Barred.{barred_here}
+use Rattle.ir_parse_heads.proofs.FunctionHeadRules.{head_rule}
+use Rattle.ir_parse_parts.proofs.MetadataBehindRules.{metadata_behind_rule, node_yet_rule}
+use Rattle.ir_parse_parts.proofs.Nodes.{attached_rule, attached_opens, metadata_line_rule}
+use Rattle.ir_parse_parts.proofs.Singles.{word, the_rule, the_opens}
+use Rattle.ir_parse_heads.proofs.TargetRules.{target_line_rule, source_line_rule, comdat_line_rule}
 
 -- what may go on behind an item, or an attribute behind a declaration's head
 abbrev pub MORE : List ℕ

@@ -3,17 +3,17 @@ use Rattle.std.proofs.Common.{◌≡◌, ℕ, suc, ◌+◌, Bool, List, [], ◌�
 use Rattle.std.specs.Prelude.{All}
 use Rattle.std.specs.List.{AllByRecursion as Each}
 use Rattle.std.proofs.lemmas.List.Elements.{All-from_recursion}
-use Rattle.ir_read.specs.declared.raw.Argument as raw_argument
-use Rattle.ir_read.specs.declared.raw.Block as raw_block
-use Rattle.ir_read.specs.declared.raw.FunctionHeader as raw_head
-use Rattle.ir_read.specs.declared.raw.Incoming as raw_incoming
-use Rattle.ir_read.specs.declared.raw.Instr as raw_instr
-use Rattle.ir_read.specs.declared.raw.Instr.TheVariants as ri
-use Rattle.ir_read.specs.declared.raw.WrittenLine as raw_line
-use Rattle.ir_read.specs.declared.raw.Operand as raw_operand
-use Rattle.ir_read.specs.declared.raw.Operand.TheVariants as ro
-use Rattle.ir_read.specs.declared.raw.Terminator as raw_end
-use Rattle.ir_read.specs.declared.raw.Terminator.TheVariants as re
+use Rattle.ir_parse_parts.specs.declared.raw.Argument as raw_argument
+use Rattle.ir_parse_parts.specs.declared.raw.Block as raw_block
+use Rattle.ir_parse_parts.specs.declared.raw.FunctionHeader as raw_head
+use Rattle.ir_parse_parts.specs.declared.raw.Incoming as raw_incoming
+use Rattle.ir_parse_parts.specs.declared.raw.Instr as raw_instr
+use Rattle.ir_parse_parts.specs.declared.raw.Instr.TheVariants as ri
+use Rattle.ir_parse_parts.specs.declared.raw.WrittenLine as raw_line
+use Rattle.ir_parse_parts.specs.declared.raw.Operand as raw_operand
+use Rattle.ir_parse_parts.specs.declared.raw.Operand.TheVariants as ro
+use Rattle.ir_parse_parts.specs.declared.raw.Terminator as raw_end
+use Rattle.ir_parse_parts.specs.declared.raw.Terminator.TheVariants as re
 use Rattle.ir_tree.specs.Items.{phi_item, end_item, block_items, items, items_from, lines_from, end_reads, phi_reads, reads, taken_as}
 use Rattle.ir_tree.specs.Layout.{align}
 use Rattle.ir_tree.specs.Wholes.{IsKnown, ItemKnown}
@@ -30,16 +30,16 @@ use Rattle.ir_tree.specs.declared.operand.Argument.{Argument}
 use Rattle.ir_tree.specs.declared.operand.Operand.TheVariants as to
 use Rattle.ir_tree.specs.declared.operand.Reg.{Reg}
 use Rattle.ir_tree.specs.declared.operand.Symbol.{Symbol}
-use Rattle.ir_names.specs.declared.locals.Sort.TheVariants.{Value, Block}
-use Rattle.ir_names.specs.Addresses.{offset_behind}
-use Rattle.named_values.specs.Blocks.{phi_of, phis_of, rest_of, phi_before, lines_behind, body_of, block_of, block_in, blocks_in, blocks_of, behind_block, function_in, params_from}
-use Rattle.ir_names.specs.Bodies.{align_or, allocated, argument_in, behind_line, case_in, end_in, incoming_in, instr_in, lines_in, local_at, operand_in, reg_align}
-use Rattle.ir_names.specs.Locals.{LocalTable, number_in}
-use Rattle.ir_names.specs.Marks.{all, both, block_marks, end_marks, instr_marks, operand_marks, uses}
-use Rattle.ir_names.specs.Numbering.{locals_of}
-use Rattle.ir_names.specs.Resolving.{each}
-use Rattle.ir_names.specs.Symbols.{symbol_of}
-use Rattle.ir_names.specs.Types.{Types, expanded}
+use Rattle.ir_parse_names.specs.declared.locals.Sort.TheVariants.{Value, Block}
+use Rattle.ir_parse_names.specs.Addresses.{offset_behind}
+use Rattle.ir_parse_values.specs.Blocks.{phi_of, phis_of, rest_of, phi_before, lines_behind, body_of, block_of, block_in, blocks_in, blocks_of, behind_block, function_in, params_from}
+use Rattle.ir_parse_names.specs.Bodies.{align_or, allocated, argument_in, behind_line, case_in, end_in, incoming_in, instr_in, lines_in, local_at, operand_in, reg_align}
+use Rattle.ir_parse_names.specs.Locals.{LocalTable, number_in}
+use Rattle.ir_parse_names.specs.Marks.{all, both, block_marks, end_marks, instr_marks, operand_marks, uses}
+use Rattle.ir_parse_names.specs.Numbering.{locals_of}
+use Rattle.ir_parse_names.specs.Resolving.{each}
+use Rattle.ir_parse_names.specs.Symbols.{symbol_of}
+use Rattle.ir_parse_names.specs.Types.{Types, expanded}
 use Rattle.ir_parse.proofs.Gives.{Gives, gives, bind, bind_each, whatever}
 use Rattle.ir_parse.proofs.Marked.{MarkKnown, MarksKnown, front_of, back_of, each_of}
 

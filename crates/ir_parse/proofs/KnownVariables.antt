@@ -4,14 +4,14 @@ use Rattle.std.specs.Prelude.{All}
 use Rattle.std.specs.List.{AllByRecursion as Each}
 use Rattle.std.proofs.lemmas.List.Elements.{All-from_recursion, All-nil}
 use Rattle.ir_lex.specs.Quotes.{content}
-use Rattle.ir_read.specs.declared.raw.Init as raw_init
-use Rattle.ir_read.specs.declared.raw.InitHead as raw_head
-use Rattle.ir_read.specs.declared.raw.InitHead.TheVariants as rh
-use Rattle.ir_read.specs.declared.raw.InitPart as raw_part
-use Rattle.ir_read.specs.declared.raw.InitPart.TheVariants as rp
-use Rattle.ir_read.specs.declared.raw.Variable as raw_variable
+use Rattle.ir_parse_parts.specs.declared.raw.Init as raw_init
+use Rattle.ir_parse_parts.specs.declared.raw.InitHead as raw_head
+use Rattle.ir_parse_parts.specs.declared.raw.InitHead.TheVariants as rh
+use Rattle.ir_parse_parts.specs.declared.raw.InitPart as raw_part
+use Rattle.ir_parse_parts.specs.declared.raw.InitPart.TheVariants as rp
+use Rattle.ir_parse_parts.specs.declared.raw.Variable as raw_variable
 use Rattle.ir_lex.specs.Tok.{Tok}
-use Rattle.ir_read.specs.Literals.{literal}
+use Rattle.ir_parse_parts.specs.Literals.{literal}
 use Rattle.ir_tree.specs.Forms.{Form, int, pointer, array, structure}
 use Rattle.ir_tree.specs.Initials.{Initial, Initials, Levels, around, begun, headed, levels, read, tree_of}
 use Rattle.ir_tree.specs.Layout.{align}
@@ -24,13 +24,13 @@ use Rattle.ir_tree.specs.declared.init_node.InitPart.TheVariants as tp
 use Rattle.ir_tree.specs.declared.operand.Operand.{Operand}
 use Rattle.ir_tree.specs.declared.operand.Operand.TheVariants as to
 use Rattle.ir_tree.specs.declared.operand.Symbol.{Symbol}
-use Rattle.ir_names.specs.Bodies.{align_or}
-use Rattle.ir_names.specs.Locals.{none_known}
-use Rattle.ir_names.specs.Marks.{all, head_marks, init_marks, part_marks, typed_marks, uses}
-use Rattle.ir_names.specs.Resolving.{◌>>=◌}
-use Rattle.ir_names.specs.Symbols.{symbol_of}
-use Rattle.ir_names.specs.Types.{Types, is_width, expanded}
-use Rattle.ir_names.specs.Variables.{constant_for, head_in, init_if, init_in, literal_or, number_for, part_in, variable_in}
+use Rattle.ir_parse_names.specs.Bodies.{align_or}
+use Rattle.ir_parse_names.specs.Locals.{none_known}
+use Rattle.ir_parse_names.specs.Marks.{all, head_marks, init_marks, part_marks, typed_marks, uses}
+use Rattle.ir_parse_names.specs.Resolving.{◌>>=◌}
+use Rattle.ir_parse_names.specs.Symbols.{symbol_of}
+use Rattle.ir_parse_names.specs.Types.{Types, is_width, expanded}
+use Rattle.ir_parse_names.specs.Variables.{constant_for, head_in, init_if, init_in, literal_or, number_for, part_in, variable_in}
 use Rattle.ir_parse.proofs.Gives.{Gives, gives, bind, bind_each, whatever}
 use Rattle.ir_parse.proofs.Marked.{MarkKnown, MarksKnown, front_of, back_of, each_of}
 use Rattle.ir_parse.proofs.KnownFunctions.{operand_known}

@@ -3,19 +3,19 @@
 use Rattle.std.proofs.Common.{◌≡◌, ℕ, zero, suc, ◌<◌, Bool, true, false, ◌&&◌, not, List, [], ◌∷◌, ◌++◌, length, Result, refl, sym, ap, subst, append_assoc, arith, inl, inr}
 use Rattle.std.proofs.lemmas.List.{length-append}
 use Rattle.ir_lex.specs.Tok.{Tok}
-use Rattle.ir_read.specs.Alphabet.{among}
-use Rattle.ir_read.specs.Chained.{Chain, chain_within}
-use Rattle.ir_read.specs.Forms.{Form, Star}
-use Rattle.ir_read.specs.Lawful.{Broad, Stops, UpTo}
-use Rattle.ir_read.specs.Readers.{Reader, done, fault_at, follow, ◌>>=◌, many_at, next_is, pick}
-use Rattle.ir_read.specs.Rules.{Rule, disjoint, subset}
-use Rattle.ir_read.specs.declared.fault.Fault.{Fault}
-use Rattle.ir_read.specs.declared.fault.TokenFault.TheVariants.{Syntax, Limit}
-use Rattle.ir_read.proofs.Composed.{bounded_too, follow_up, limit_up}
-use Rattle.ir_read.proofs.Rules.{apart_from, within_of}
-use Rattle.ir_read.specs.Classes.{tokens}
-use Rattle.ir_bodies.specs.CallsAt.{MARKER}
-use Rattle.ir_bodies.specs.Successive.{successive_at}
+use Rattle.ir_parse_parts.specs.Alphabet.{among}
+use Rattle.ir_parse_parts.specs.Chained.{Chain, chain_within}
+use Rattle.ir_parse_parts.specs.Forms.{Form, Star}
+use Rattle.ir_parse_parts.specs.Lawful.{Broad, Stops, UpTo}
+use Rattle.ir_parse_parts.specs.Readers.{Reader, done, fault_at, follow, ◌>>=◌, many_at, next_is, pick}
+use Rattle.ir_parse_parts.specs.Rules.{Rule, disjoint, subset}
+use Rattle.ir_parse_parts.specs.declared.fault.Fault.{Fault}
+use Rattle.ir_parse_parts.specs.declared.fault.TokenFault.TheVariants.{Syntax, Limit}
+use Rattle.ir_parse_parts.proofs.Composed.{bounded_too, follow_up, limit_up}
+use Rattle.ir_parse_parts.proofs.Rules.{apart_from, within_of}
+use Rattle.ir_parse_parts.specs.Classes.{tokens}
+use Rattle.ir_parse_bodies.specs.CallsAt.{MARKER}
+use Rattle.ir_parse_bodies.specs.Successive.{successive_at}
 
 -- a reading of these tokens, and a marker behind them, ends at it against the syntax
 pub record Leads {A : Type 0} (f : Reader Tok A) (front : List Tok) : Type 0 where

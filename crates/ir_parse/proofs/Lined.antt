@@ -1,22 +1,22 @@
 -- There are as many lines as phis, instructions and terminators.
 use Rattle.std.proofs.Common.{◌≡◌, refl, sym, ap, ◌∙◌, ℕ, suc, ◌+◌, List, [], ◌∷◌, ◌++◌, map, length, flat_map, Option, None, Some, Result, Ok, Err, IfOk, arith, length-append}
 use Rattle.std.proofs.lemmas.List.{length-map}
-use Rattle.ir_read.specs.declared.raw.Block as raw_block
-use Rattle.ir_read.specs.declared.raw.WrittenLine as raw_line
+use Rattle.ir_parse_parts.specs.declared.raw.Block as raw_block
+use Rattle.ir_parse_parts.specs.declared.raw.WrittenLine as raw_line
 use Rattle.ir_tree.specs.declared.block.Block.{Block}
 use Rattle.ir_tree.specs.declared.block.Terminator.{Terminator}
 use Rattle.ir_tree.specs.declared.instr.Line.{Line}
 use Rattle.ir_tree.specs.declared.instr.Phi.{Phi}
 use Rattle.ir_tree.specs.declared.function.Function.{Function}
 use Rattle.ir_tree.specs.Items.{phi_item, end_item, lines_from, block_items, items_from, items}
-use Rattle.ir_names.specs.declared.fault.Fault.{Fault}
-use Rattle.named_values.specs.Blocks.{phi_before, lines_behind, as_phi, phis_of, rest_of, body_of, block_of, block_in, blocks_in, behind_block, blocks_of, params_from, function_in}
-use Rattle.ir_names.specs.Bodies.{instr_in, lines_in, behind_line, end_in, local_at}
-use Rattle.ir_names.specs.Locals.{LocalTable}
-use Rattle.ir_names.specs.Numbering.{locals_of}
-use Rattle.ir_names.specs.Resolving.{◌>>=◌}
-use Rattle.ir_names.specs.Symbols.{symbol_of}
-use Rattle.ir_names.specs.Types.{Types}
+use Rattle.ir_parse_names.specs.declared.fault.Fault.{Fault}
+use Rattle.ir_parse_values.specs.Blocks.{phi_before, lines_behind, as_phi, phis_of, rest_of, body_of, block_of, block_in, blocks_in, behind_block, blocks_of, params_from, function_in}
+use Rattle.ir_parse_names.specs.Bodies.{instr_in, lines_in, behind_line, end_in, local_at}
+use Rattle.ir_parse_names.specs.Locals.{LocalTable}
+use Rattle.ir_parse_names.specs.Numbering.{locals_of}
+use Rattle.ir_parse_names.specs.Resolving.{◌>>=◌}
+use Rattle.ir_parse_names.specs.Symbols.{symbol_of}
+use Rattle.ir_parse_names.specs.Types.{Types}
 use Rattle.ir_parse.specs.Lines.{block_lines}
 use Rattle.ir_parse.specs.LineLaws.{LinesFit}
 

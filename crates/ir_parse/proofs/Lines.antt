@@ -1,21 +1,21 @@
 -- Instructions by their first words, and lines with names, that the grammar spells.
 use Rattle.std.proofs.Common.{◌≡◌, ℕ, Bool, true, false, Option, Some, None, refl, sym, subst}
 use Rattle.std.specs.Prelude.{IfSome}
-use Rattle.ir_bodies.specs.Lines.{GIVING, attended, behind, kept, line, line_behind, lined, named_line, opcode_by, operation, plain_line}
-use Rattle.ir_bodies.specs.declared.opcodes.Opcode.{Opcode}
-use Rattle.ir_bodies.specs.declared.opcodes.Opcode.TheVariants as opcodes
-use Rattle.ir_bodies.specs.declared.opcodes.Operation.{Operation}
-use Rattle.ir_bodies.specs.declared.opcodes.Operation.TheVariants as operations
+use Rattle.ir_parse_bodies.specs.Lines.{GIVING, attended, behind, kept, line, line_behind, lined, named_line, opcode_by, operation, plain_line}
+use Rattle.ir_parse_bodies.specs.declared.opcodes.Opcode.{Opcode}
+use Rattle.ir_parse_bodies.specs.declared.opcodes.Opcode.TheVariants as opcodes
+use Rattle.ir_parse_bodies.specs.declared.opcodes.Operation.{Operation}
+use Rattle.ir_parse_bodies.specs.declared.opcodes.Operation.TheVariants as operations
 use Rattle.ir_lex.specs.TokenKinds.{number}
 use Rattle.ir_lex.specs.Tok.{Tok}
 use Rattle.ir_lex.specs.declared.token_kind.TokenKind.{TokenKind}
 use Rattle.ir_lex.specs.declared.token_kind.TokenKind.TheVariants as kinds
-use Rattle.ir_read.specs.Alphabet.{contains}
-use Rattle.ir_read.specs.Forms.{Form}
-use Rattle.ir_instructions.specs.Addressing.{slots_fit}
-use Rattle.ir_instructions.specs.Instructions.{flags, no_flags, storing}
-use Rattle.ir_operands.specs.ShapeForms.{memory_shape}
-use Rattle.ir_read.specs.declared.raw.Instr.{Instr}
+use Rattle.ir_parse_parts.specs.Alphabet.{contains}
+use Rattle.ir_parse_parts.specs.Forms.{Form}
+use Rattle.ir_parse_instructions.specs.Addressing.{slots_fit}
+use Rattle.ir_parse_instructions.specs.Instructions.{flags, no_flags, storing}
+use Rattle.ir_parse_operands.specs.ShapeForms.{memory_shape}
+use Rattle.ir_parse_parts.specs.declared.raw.Instr.{Instr}
 use Rattle.ir_tree.specs.Formed.{FlagsFormed}
 use Rattle.ir_tree.specs.declared.instr.CastOp.TheVariants as casts
 use Rattle.ir_tree.specs.declared.instr.Flags.{Flags}

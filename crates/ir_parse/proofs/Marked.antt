@@ -3,8 +3,8 @@ use Rattle.std.proofs.Common.{List, [], ◌∷◌, ◌++◌}
 use Rattle.std.specs.Prelude.{Contains}
 use Rattle.std.specs.List.{AllByRecursion as Each}
 use Rattle.ir_tree.specs.declared.operand.Symbol.{Symbol}
-use Rattle.ir_names.specs.Marks.{Mark, symbol, address, all}
-use Rattle.ir_names.specs.Symbols.{symbol_of}
+use Rattle.ir_parse_names.specs.Marks.{Mark, symbol, address, all}
+use Rattle.ir_parse_names.specs.Symbols.{symbol_of}
 
 -- a symbol that is used is one of these
 abbrev pub MarkKnown : List Symbol → Mark → Type 0

@@ -5,14 +5,14 @@ use Rattle.std.specs.Prelude.{IfSome}
 use Rattle.std.proofs.lemmas.Bool.{and_parts}
 use Rattle.ir_lex.specs.TokenKinds.{number}
 use Rattle.ir_lex.specs.Tok.{Tok}
-use Rattle.ir_read.specs.Alphabet.{contains}
-use Rattle.ir_read.specs.Chained.{Chain}
-use Rattle.ir_read.specs.Forms as form
-use Rattle.ir_read.specs.Forms.{Form}
-use Rattle.ir_read.specs.Rules.{in_range, is_among, is_exact, is_valued}
-use Rattle.ir_read.specs.declared.fault.TokenFault.{TokenFault}
-use Rattle.ir_bodies.specs.Successive.{Successive}
-use Rattle.ir_read.specs.Classes.{tokens}
+use Rattle.ir_parse_parts.specs.Alphabet.{contains}
+use Rattle.ir_parse_parts.specs.Chained.{Chain}
+use Rattle.ir_parse_parts.specs.Forms as form
+use Rattle.ir_parse_parts.specs.Forms.{Form}
+use Rattle.ir_parse_parts.specs.Rules.{in_range, is_among, is_exact, is_valued}
+use Rattle.ir_parse_parts.specs.declared.fault.TokenFault.{TokenFault}
+use Rattle.ir_parse_bodies.specs.Successive.{Successive}
+use Rattle.ir_parse_parts.specs.Classes.{tokens}
 use Rattle.ir_parse.specs.Sized.{IsSized}
 
 pub record Means {A : Type 0} (g : Form Tok A) (P : A → Type 0) : Type 0 where

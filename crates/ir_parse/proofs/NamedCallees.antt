@@ -9,56 +9,56 @@ use Rattle.ir_lex.specs.declared.token_kind.TokenKind.TheVariants as kinds
 use Rattle.ir_lex.specs.declared.token.TokenForm.TheVariants as forms
 use Rattle.ir_lex.specs.declared.token_kind.TokenKind.{TokenKind}
 use Rattle.ir_tree.specs.declared.operand.Reg.TheVariants.{Ptr}
-use Rattle.ir_read.proofs.Composed.{limit_up, with_wide, wrong, wrong_is}
-use Rattle.ir_read.proofs.Rules as rules
-use Rattle.ir_read.specs.Alphabet.{among, contains}
-use Rattle.ir_read.specs.Chained.{chain_at, chain_within}
-use Rattle.ir_read.specs.Forms as form
-use Rattle.ir_read.specs.Lawful.{IsBound, UpTo}
-use Rattle.ir_read.specs.Readers.{Reader, done, fault_at, ◌>>=◌, pick, token_means, whole_of}
-use Rattle.ir_read.specs.Rules.{Rule, disjoint, in_range, is_among, is_class, is_valued, subset}
-use Rattle.ir_read.specs.declared.fault.Fault.{Fault}
-use Rattle.ir_read.specs.declared.fault.TokenFault.TheVariants.{Syntax, Profile, Limit}
-use Rattle.ir_read.specs.declared.fault.TokenFault.{TokenFault}
-use Rattle.ir_instructions.specs.Addressing.{any_slots}
-use Rattle.ir_heads.specs.AttributesAt.{definition_attributes_at}
-use Rattle.ir_read.specs.Classes.{NUMERALS, itself, one_of, one_of_at, refusal, the, tokens}
-use Rattle.ir_heads.specs.FunctionHeads.{end_of_none}
-use Rattle.ir_heads.specs.FunctionHeadsAt.{end_of_none_at, head_at}
-use Rattle.ir_read.specs.MetadataAt.{COMMA, PAREN}
-use Rattle.ir_read.specs.Operands.{LOCAL, POINTER_OPERAND, REG, RESULT, named, operand_of, result, result_of, reg_of, type_refusal}
-use Rattle.ir_read.specs.OperandsAt.{local_at, result_at}
-use Rattle.ir_operands.specs.ShapeForms.{any_shape}
-use Rattle.ir_operands.specs.ValuesAt.{ADDRESS, address_at}
-use Rattle.ir_heads.specs.declared.function_heads.Role.TheVariants as roles
-use Rattle.ir_instructions.specs.Terminators.{ENDS}
-use Rattle.ir_read.specs.declared.places.Before.TheVariants as befores
-use Rattle.ir_read.specs.declared.places.Before.{Before}
-use Rattle.ir_read.specs.declared.places.Position.{Position}
-use Rattle.ir_read.specs.declared.raw.Item.{Item}
-use Rattle.ir_read.specs.declared.raw.WrittenLine.{WrittenLine}
-use Rattle.ir_read.specs.declared.raw.Operand.{Operand}
-use Rattle.ir_heads.proofs.AttributeRules.{definition_attributes_rule}
-use Rattle.ir_heads.proofs.FunctionHeadRules.{head_rule}
-use Rattle.ir_read.proofs.OperandRules.{result_rule, type_not_limit, type_not_number}
-use Rattle.ir_read.proofs.Singles.{close_paren_real, close_paren_rule, equals_rule, mark, not_limit, not_number, one_rule, open_brace_rule, open_paren_rule, sample, word}
-use Rattle.ir_instructions.proofs.TerminatorRules.{terminator_rule}
-use Rattle.ir_read.proofs.Words.{int_32_real}
-use Rattle.ir_bodies.specs.Blocks.{FURTHER_BLOCKS, INSTRUCTIONS, LABEL, any_block, any_block_behind, any_label, any_lines, any_local, at_will, block, block_behind, block_of, keep, label, lines, with_kept}
-use Rattle.ir_bodies.specs.BlocksAt.{BLOCK, DEFINE, all_lines_at, block_at, block_behind_at, blocks_at, blocks_behind_at, defined_at, definition_at, further_blocks_at, label_at, lines_at}
-use Rattle.ir_bodies.specs.Calls.{conventions, listed_types, marker_refusal, some_types, types, written_type}
-use Rattle.ir_bodies.specs.CallsAt.{CONVENTIONS, MARKER, callee_at, calling_at, calling_with_at, conventions_at, listed_types_at, maybe_types_at, some_types_at, tail_calling_at, types_at, types_behind_at, unmarked_at, unmarked_value_at, written_type_at}
-use Rattle.ir_bodies.specs.Lines.{GIVING, line, lined, opcode_by, opcode_of}
-use Rattle.ir_bodies.specs.LinesAt.{LINE, behind_at, line_at, line_behind_at, named_line_at, plain_line_at}
-use Rattle.ir_bodies.specs.declared.opcodes.Opcode.TheVariants as opcodes
-use Rattle.ir_bodies.specs.declared.opcodes.Opcode.{Opcode}
-use Rattle.ir_bodies.proofs.BlockRules.{BEHIND_BLOCK}
-use Rattle.ir_bodies.proofs.CallRules.{BEHIND_CALL, convention_rule, further_type_rule}
-use Rattle.ir_bodies.proofs.LineRules.{any_name, line_rule, same_name}
-use Rattle.ir_bodies.proofs.LineRules as line_rules
-use Rattle.ir_bodies.proofs.Samples.{add_real, call_word_rule, define_word_rule, label_real}
-use Rattle.ir_globals.specs.Variables.{NAMES}
-use Rattle.ir_globals.specs.VariablesAt.{variable_line_at}
+use Rattle.ir_parse_parts.proofs.Composed.{limit_up, with_wide, wrong, wrong_is}
+use Rattle.ir_parse_parts.proofs.Rules as rules
+use Rattle.ir_parse_parts.specs.Alphabet.{among, contains}
+use Rattle.ir_parse_parts.specs.Chained.{chain_at, chain_within}
+use Rattle.ir_parse_parts.specs.Forms as form
+use Rattle.ir_parse_parts.specs.Lawful.{IsBound, UpTo}
+use Rattle.ir_parse_parts.specs.Readers.{Reader, done, fault_at, ◌>>=◌, pick, token_means, whole_of}
+use Rattle.ir_parse_parts.specs.Rules.{Rule, disjoint, in_range, is_among, is_class, is_valued, subset}
+use Rattle.ir_parse_parts.specs.declared.fault.Fault.{Fault}
+use Rattle.ir_parse_parts.specs.declared.fault.TokenFault.TheVariants.{Syntax, Profile, Limit}
+use Rattle.ir_parse_parts.specs.declared.fault.TokenFault.{TokenFault}
+use Rattle.ir_parse_instructions.specs.Addressing.{any_slots}
+use Rattle.ir_parse_heads.specs.AttributesAt.{definition_attributes_at}
+use Rattle.ir_parse_parts.specs.Classes.{NUMERALS, itself, one_of, one_of_at, refusal, the, tokens}
+use Rattle.ir_parse_heads.specs.FunctionHeads.{end_of_none}
+use Rattle.ir_parse_heads.specs.FunctionHeadsAt.{end_of_none_at, head_at}
+use Rattle.ir_parse_parts.specs.MetadataAt.{COMMA, PAREN}
+use Rattle.ir_parse_parts.specs.Operands.{LOCAL, POINTER_OPERAND, REG, RESULT, named, operand_of, result, result_of, reg_of, type_refusal}
+use Rattle.ir_parse_parts.specs.OperandsAt.{local_at, result_at}
+use Rattle.ir_parse_operands.specs.ShapeForms.{any_shape}
+use Rattle.ir_parse_operands.specs.ValuesAt.{ADDRESS, address_at}
+use Rattle.ir_parse_heads.specs.declared.function_heads.Role.TheVariants as roles
+use Rattle.ir_parse_instructions.specs.Terminators.{ENDS}
+use Rattle.ir_parse_parts.specs.declared.places.Before.TheVariants as befores
+use Rattle.ir_parse_parts.specs.declared.places.Before.{Before}
+use Rattle.ir_parse_parts.specs.declared.places.Position.{Position}
+use Rattle.ir_parse_parts.specs.declared.raw.Item.{Item}
+use Rattle.ir_parse_parts.specs.declared.raw.WrittenLine.{WrittenLine}
+use Rattle.ir_parse_parts.specs.declared.raw.Operand.{Operand}
+use Rattle.ir_parse_heads.proofs.AttributeRules.{definition_attributes_rule}
+use Rattle.ir_parse_heads.proofs.FunctionHeadRules.{head_rule}
+use Rattle.ir_parse_parts.proofs.OperandRules.{result_rule, type_not_limit, type_not_number}
+use Rattle.ir_parse_parts.proofs.Singles.{close_paren_real, close_paren_rule, equals_rule, mark, not_limit, not_number, one_rule, open_brace_rule, open_paren_rule, sample, word}
+use Rattle.ir_parse_instructions.proofs.TerminatorRules.{terminator_rule}
+use Rattle.ir_parse_parts.proofs.Words.{int_32_real}
+use Rattle.ir_parse_bodies.specs.Blocks.{FURTHER_BLOCKS, INSTRUCTIONS, LABEL, any_block, any_block_behind, any_label, any_lines, any_local, at_will, block, block_behind, block_of, keep, label, lines, with_kept}
+use Rattle.ir_parse_bodies.specs.BlocksAt.{BLOCK, DEFINE, all_lines_at, block_at, block_behind_at, blocks_at, blocks_behind_at, defined_at, definition_at, further_blocks_at, label_at, lines_at}
+use Rattle.ir_parse_bodies.specs.Calls.{conventions, listed_types, marker_refusal, some_types, types, written_type}
+use Rattle.ir_parse_bodies.specs.CallsAt.{CONVENTIONS, MARKER, callee_at, calling_at, calling_with_at, conventions_at, listed_types_at, maybe_types_at, some_types_at, tail_calling_at, types_at, types_behind_at, unmarked_at, unmarked_value_at, written_type_at}
+use Rattle.ir_parse_bodies.specs.Lines.{GIVING, line, lined, opcode_by, opcode_of}
+use Rattle.ir_parse_bodies.specs.LinesAt.{LINE, behind_at, line_at, line_behind_at, named_line_at, plain_line_at}
+use Rattle.ir_parse_bodies.specs.declared.opcodes.Opcode.TheVariants as opcodes
+use Rattle.ir_parse_bodies.specs.declared.opcodes.Opcode.{Opcode}
+use Rattle.ir_parse_bodies.proofs.BlockRules.{BEHIND_BLOCK}
+use Rattle.ir_parse_bodies.proofs.CallRules.{BEHIND_CALL, convention_rule, further_type_rule}
+use Rattle.ir_parse_bodies.proofs.LineRules.{any_name, line_rule, same_name}
+use Rattle.ir_parse_bodies.proofs.LineRules as line_rules
+use Rattle.ir_parse_bodies.proofs.Samples.{add_real, call_word_rule, define_word_rule, label_real}
+use Rattle.ir_parse_globals.specs.Variables.{NAMES}
+use Rattle.ir_parse_globals.specs.VariablesAt.{variable_line_at}
 use Rattle.ir_parse.specs.ItemForms.{any_items, anywhere}
 use Rattle.ir_parse.specs.ItemFormsAt.{DECLARE, NAMING, beginnings, begins_there, declaration_at, first_place, items_at, kept_at, named_at, named_within_at, naming_at, other_at, piece_at, there_at}
 use Rattle.ir_parse.specs.Modules.{FURTHER_PARAMETERS, GLOBAL_NAMES, item_refusal, module_of}

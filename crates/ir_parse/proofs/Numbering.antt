@@ -3,23 +3,23 @@ use Rattle.std.proofs.Common.{◌≡◌, ℕ, suc, ◌+◌, ◌||◌, Bool, true
 use Rattle.std.specs.Prelude.{flat_map}
 use Rattle.std.proofs.lemmas.List.{append-nil, map-append}
 use Rattle.ir_lex.specs.Tok.{Tok}
-use Rattle.ir_read.specs.declared.raw.Block as raw_block
-use Rattle.ir_read.specs.declared.raw.WrittenLine as raw_line
-use Rattle.ir_read.specs.declared.raw.Param as raw_param
+use Rattle.ir_parse_parts.specs.declared.raw.Block as raw_block
+use Rattle.ir_parse_parts.specs.declared.raw.WrittenLine as raw_line
+use Rattle.ir_parse_parts.specs.declared.raw.Param as raw_param
 use Rattle.ir_tree.specs.Flow.{definitions, results}
 use Rattle.ir_tree.specs.declared.block.Block as tree_block
 use Rattle.ir_tree.specs.declared.instr.Instr.{Instr}
 use Rattle.ir_tree.specs.declared.instr.Instr.TheVariants as ti
 use Rattle.ir_tree.specs.declared.instr.Line.{Line}
-use Rattle.ir_names.specs.declared.locals.Sort.{Sort}
-use Rattle.ir_names.specs.declared.locals.Sort.TheVariants.{Value, Block}
-use Rattle.named_values.specs.Blocks.{phi_of, phis_of, rest_of, phi_before, lines_behind, body_of, body_in, block_of, block_in, blocks_in, behind_block, params_from}
-use Rattle.ir_names.specs.Bodies.{instr_in, lines_in, end_in, local_at, behind_line, behind_lines}
-use Rattle.ir_names.specs.Keys.{Key, key_of, written}
-use Rattle.ir_names.specs.Locals.{LocalTable, none_known, is_below, stands, twice, with_key, with_name}
-use Rattle.ir_names.specs.Numbering.{is_defined, with_params, with_line, with_lines, with_block, with_blocks, locals_of}
-use Rattle.ir_names.specs.Resolving.{◌>>=◌}
-use Rattle.ir_names.specs.Types.{Types}
+use Rattle.ir_parse_names.specs.declared.locals.Sort.{Sort}
+use Rattle.ir_parse_names.specs.declared.locals.Sort.TheVariants.{Value, Block}
+use Rattle.ir_parse_values.specs.Blocks.{phi_of, phis_of, rest_of, phi_before, lines_behind, body_of, body_in, block_of, block_in, blocks_in, behind_block, params_from}
+use Rattle.ir_parse_names.specs.Bodies.{instr_in, lines_in, end_in, local_at, behind_line, behind_lines}
+use Rattle.ir_parse_names.specs.Keys.{Key, key_of, written}
+use Rattle.ir_parse_names.specs.Locals.{LocalTable, none_known, is_below, stands, twice, with_key, with_name}
+use Rattle.ir_parse_names.specs.Numbering.{is_defined, with_params, with_line, with_lines, with_block, with_blocks, locals_of}
+use Rattle.ir_parse_names.specs.Resolving.{◌>>=◌}
+use Rattle.ir_parse_names.specs.Types.{Types}
 use Rattle.ir_parse.proofs.Gives.{Gives, gives, fails, bind}
 use Rattle.ir_parse.proofs.Positions.{positions, positions_both}
 

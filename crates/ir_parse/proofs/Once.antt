@@ -5,7 +5,7 @@ use Rattle.std.specs.List.{list_any}
 use Rattle.std.specs.Str.{bytes_eq}
 use Rattle.std.proofs.lemmas.Slice.Eq.{bytes_eq-Decides}
 use Rattle.ir_tree.specs.Formed.{Distinct}
-use Rattle.ir_names.specs.Globals.{has_name}
+use Rattle.ir_parse_names.specs.Globals.{has_name}
 
 -- an element that isn't in the list
 abbrev pub Apart : {X : Type 0} → X → List X → Type 0

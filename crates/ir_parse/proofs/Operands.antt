@@ -5,15 +5,15 @@ use Rattle.ir_lex.specs.TokenKinds.{number, width_of}
 use Rattle.ir_lex.specs.Tok.{Tok}
 use Rattle.ir_lex.specs.declared.token_kind.TokenKind.{TokenKind}
 use Rattle.ir_lex.specs.declared.token_kind.TokenKind.TheVariants as kinds
-use Rattle.ir_read.specs.Alphabet.{contains}
-use Rattle.ir_read.specs.Forms.{Form}
-use Rattle.ir_read.specs.Literals.{literal}
-use Rattle.ir_read.proofs.LiteralRange.{literal_fits}
-use Rattle.ir_read.specs.Operands.{SCALAR, bit, bits_of, integer, named, operand_by, reg, reg_of, result, result_of, scalar, simple, width}
-use Rattle.ir_operands.specs.Values.{address, address_behind, argument, operand, reached}
-use Rattle.ir_read.specs.declared.raw.Operand.{Operand}
-use Rattle.ir_read.specs.declared.raw.Operand.TheVariants as operands
-use Rattle.ir_read.specs.declared.shape.Typed.{Typed}
+use Rattle.ir_parse_parts.specs.Alphabet.{contains}
+use Rattle.ir_parse_parts.specs.Forms.{Form}
+use Rattle.ir_parse_parts.specs.Literals.{literal}
+use Rattle.ir_parse_parts.proofs.LiteralRange.{literal_fits}
+use Rattle.ir_parse_parts.specs.Operands.{SCALAR, bit, bits_of, integer, named, operand_by, reg, reg_of, result, result_of, scalar, simple, width}
+use Rattle.ir_parse_operands.specs.Values.{address, address_behind, argument, operand, reached}
+use Rattle.ir_parse_parts.specs.declared.raw.Operand.{Operand}
+use Rattle.ir_parse_parts.specs.declared.raw.Operand.TheVariants as operands
+use Rattle.ir_parse_parts.specs.declared.shape.Typed.{Typed}
 use Rattle.ir_tree.specs.Formed.{IsReg, IsResult, IsScalar, IsStored, IsWidth}
 use Rattle.ir_tree.specs.declared.operand.Reg.{Reg}
 use Rattle.ir_tree.specs.declared.operand.Reg.TheVariants.{Int, Ptr}

@@ -5,9 +5,9 @@ use Rattle.std.proofs.lemmas.Bool.{eq-eqb, or_left, or_right}
 use Rattle.ir_tree.specs.Flow.{holds}
 use Rattle.ir_tree.specs.Formed.{Distinct}
 use Rattle.ir_edit.proofs.Tally.{tally, tally_both, distinct_less}
-use Rattle.ir_names.specs.declared.locals.Sort.{Sort}
-use Rattle.ir_names.specs.declared.locals.Sort.TheVariants.{Value, Block}
-use Rattle.ir_names.specs.Locals.{same_sort}
+use Rattle.ir_parse_names.specs.declared.locals.Sort.{Sort}
+use Rattle.ir_parse_names.specs.declared.locals.Sort.TheVariants.{Value, Block}
+use Rattle.ir_parse_names.specs.Locals.{same_sort}
 
 -- the first of the list stands at n
 abbrev pub positions : Sort → ℕ → List Sort → List ℕ

@@ -4,9 +4,9 @@ use Rattle.std.specs.Prelude.{IfOk, IfErr}
 use Rattle.ir_lex.specs.Lexing.{AreTokens, AreTokensBefore, IsLexed}
 use Rattle.ir_lex.specs.Tok.{Tok}
 use Rattle.ir_lex.proofs.Total.{every_text}
-use Rattle.ir_read.specs.declared.fault.Fault as grammar
-use Rattle.ir_names.specs.declared.fault.Fault as names
-use Rattle.ir_read.specs.declared.raw.Item.{Item}
+use Rattle.ir_parse_parts.specs.declared.fault.Fault as grammar
+use Rattle.ir_parse_names.specs.declared.fault.Fault as names
+use Rattle.ir_parse_parts.specs.declared.raw.Item.{Item}
 use Rattle.ir_tree.specs.declared.module.Module.{Module}
 use Rattle.ir_parse.specs.Modules.{module_of, whole_module}
 use Rattle.ir_parse.specs.Lines.{lines_of}

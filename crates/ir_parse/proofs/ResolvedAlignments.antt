@@ -6,7 +6,7 @@ use Rattle.ir_tree.specs.Forms.{Form, Forms, int, pointer, array, structure, no_
 use Rattle.ir_tree.specs.Layout.{align, widest}
 use Rattle.ir_tree.specs.declared.operand.Reg.{Reg}
 use Rattle.ir_tree.specs.declared.operand.Reg.TheVariants.{Int, Ptr}
-use Rattle.ir_names.specs.Bodies.{align_or, reg_align}
+use Rattle.ir_parse_names.specs.Bodies.{align_or, reg_align}
 use Rattle.ir_parse.specs.Written.{AlignWritten}
 
 stored_align : (w : ℕ) → IsStored w → IsAlignment (w / 8)

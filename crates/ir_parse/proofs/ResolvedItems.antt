@@ -4,17 +4,17 @@ use Rattle.std.specs.Prelude.{All, IsSome}
 use Rattle.std.specs.List.{AllByRecursion as Each}
 use Rattle.std.proofs.lemmas.List.Elements.{All-append, All-cons, All-from_recursion, All-nil, recursion_from_All}
 use Rattle.ir_lex.specs.Tok.{Tok}
-use Rattle.ir_read.specs.declared.raw.Argument as raw_argument
-use Rattle.ir_read.specs.declared.raw.Block as raw_block
-use Rattle.ir_read.specs.declared.raw.Case as raw_case
-use Rattle.ir_read.specs.declared.raw.Incoming as raw_incoming
-use Rattle.ir_read.specs.declared.raw.Instr as raw_instr
-use Rattle.ir_read.specs.declared.raw.Instr.TheVariants as ri
-use Rattle.ir_read.specs.declared.raw.WrittenLine as raw_line
-use Rattle.ir_read.specs.declared.raw.Operand as raw_operand
-use Rattle.ir_read.specs.declared.raw.Operand.TheVariants as ro
-use Rattle.ir_read.specs.declared.raw.Terminator as raw_end
-use Rattle.ir_read.specs.declared.raw.Terminator.TheVariants as re
+use Rattle.ir_parse_parts.specs.declared.raw.Argument as raw_argument
+use Rattle.ir_parse_parts.specs.declared.raw.Block as raw_block
+use Rattle.ir_parse_parts.specs.declared.raw.Case as raw_case
+use Rattle.ir_parse_parts.specs.declared.raw.Incoming as raw_incoming
+use Rattle.ir_parse_parts.specs.declared.raw.Instr as raw_instr
+use Rattle.ir_parse_parts.specs.declared.raw.Instr.TheVariants as ri
+use Rattle.ir_parse_parts.specs.declared.raw.WrittenLine as raw_line
+use Rattle.ir_parse_parts.specs.declared.raw.Operand as raw_operand
+use Rattle.ir_parse_parts.specs.declared.raw.Operand.TheVariants as ro
+use Rattle.ir_parse_parts.specs.declared.raw.Terminator as raw_end
+use Rattle.ir_parse_parts.specs.declared.raw.Terminator.TheVariants as re
 use Rattle.ir_tree.specs.Flow.{successors}
 use Rattle.ir_tree.specs.Formed.{ArgumentFormed, CaseFormed, CasesFormed, InstrFormed, IsBlock, IsLocal, IsReg, IsShape, IsWidth, ItemFormed, OperandFormed, ResultFormed}
 use Rattle.ir_tree.specs.Items.{phi_item, line_item, end_item, block_items, items_from, lines_from, end_reads, phi_reads, reads, taken, taken_as}
@@ -33,15 +33,15 @@ use Rattle.ir_tree.specs.declared.operand.Argument.{Argument}
 use Rattle.ir_tree.specs.declared.operand.Operand.{Operand}
 use Rattle.ir_tree.specs.declared.operand.Operand.TheVariants as to
 use Rattle.ir_tree.specs.declared.operand.Reg.{Reg}
-use Rattle.ir_names.specs.declared.locals.Sort.TheVariants.{Value, Block}
-use Rattle.ir_names.specs.Addresses.{offset_behind}
-use Rattle.named_values.specs.Blocks.{phi_of, phis_of, rest_of, phi_before, lines_behind, body_of, block_of, block_in, blocks_in, behind_block}
-use Rattle.ir_names.specs.Bodies.{align_or, argument_in, behind_line, case_in, end_in, incoming_in, instr_in, lines_in, local_at, operand_in, reg_align}
-use Rattle.ir_names.specs.Locals.{LocalTable, number_in}
-use Rattle.ir_names.specs.Numbering.{has_result}
-use Rattle.ir_names.specs.Resolving.{each}
-use Rattle.ir_names.specs.Symbols.{symbol_of}
-use Rattle.ir_names.specs.Types.{Types}
+use Rattle.ir_parse_names.specs.declared.locals.Sort.TheVariants.{Value, Block}
+use Rattle.ir_parse_names.specs.Addresses.{offset_behind}
+use Rattle.ir_parse_values.specs.Blocks.{phi_of, phis_of, rest_of, phi_before, lines_behind, body_of, block_of, block_in, blocks_in, behind_block}
+use Rattle.ir_parse_names.specs.Bodies.{align_or, argument_in, behind_line, case_in, end_in, incoming_in, instr_in, lines_in, local_at, operand_in, reg_align}
+use Rattle.ir_parse_names.specs.Locals.{LocalTable, number_in}
+use Rattle.ir_parse_names.specs.Numbering.{has_result}
+use Rattle.ir_parse_names.specs.Resolving.{each}
+use Rattle.ir_parse_names.specs.Symbols.{symbol_of}
+use Rattle.ir_parse_names.specs.Types.{Types}
 use Rattle.ir_parse.specs.Written.{ArgumentWritten, BlockWritten, CaseWritten, EndWritten, InstrWritten, LineWritten, NameWritten, OperandWritten, TypesWritten}
 use Rattle.ir_parse.proofs.ResolvedAlignments.{aligned, scalar_align, scalar_reg, shape_align}
 use Rattle.ir_parse.proofs.Gives.{Gives, gives, bind, bind_each, whatever}

@@ -4,21 +4,21 @@ use Rattle.std.specs.List.{AllByRecursion as Each}
 use Rattle.std.proofs.lemmas.Bool.{and_parts, leb-true}
 use Rattle.std.proofs.lemmas.List.Elements.{recursion_from_All}
 use Rattle.ir_lex.specs.Tok.{Tok}
-use Rattle.ir_read.specs.Shapes as w
-use Rattle.ir_read.specs.Shapes.{Written, WrittenParts}
-use Rattle.ir_read.specs.declared.shape.Typed.{Typed}
+use Rattle.ir_parse_parts.specs.Shapes as w
+use Rattle.ir_parse_parts.specs.Shapes.{Written, WrittenParts}
+use Rattle.ir_parse_parts.specs.declared.shape.Typed.{Typed}
 use Rattle.ir_tree.specs.Forms.{Form, int, pointer, array, structure, forms_of}
 use Rattle.ir_tree.specs.Formed.{AreStored, AllStored, IsReg, IsStored, IsShape, IsWidth, nesting, deepest}
 use Rattle.ir_tree.specs.Layout.{IsLaidOut, AreLaidOut, size}
-use Rattle.ir_names.specs.declared.fault.Fault.{Fault}
-use Rattle.ir_names.specs.Bodies.{allocated}
-use Rattle.ir_names.specs.Keys.{Key, key_of, same_key}
-use Rattle.ir_names.specs.Locals.{unknown}
-use Rattle.ir_names.specs.Resolving.{each}
-use Rattle.ir_names.specs.Types.{Types, limit, or_unknown, entry_of, entry_in, shape_in, head_from, head_of, is_width, scalar, within, opened, without_parts, expand, expanded, array_of}
+use Rattle.ir_parse_names.specs.declared.fault.Fault.{Fault}
+use Rattle.ir_parse_names.specs.Bodies.{allocated}
+use Rattle.ir_parse_names.specs.Keys.{Key, key_of, same_key}
+use Rattle.ir_parse_names.specs.Locals.{unknown}
+use Rattle.ir_parse_names.specs.Resolving.{each}
+use Rattle.ir_parse_names.specs.Types.{Types, limit, or_unknown, entry_of, entry_in, shape_in, head_from, head_of, is_width, scalar, within, opened, without_parts, expand, expanded, array_of}
 use Rattle.ir_parse.specs.Resolved.{ShapesAreWithin}
 use Rattle.ir_parse.specs.Written.{ShapeWritten, PartsWritten, TypeWritten, TypesWritten}
-use Rattle.ir_names.specs.Variables.{constant_type}
+use Rattle.ir_parse_names.specs.Variables.{constant_type}
 use Rattle.ir_parse.proofs.Gives.{Gives, gives, fails, bind, bind_each, whatever}
 
 -- ---- what a name stands for is written so too

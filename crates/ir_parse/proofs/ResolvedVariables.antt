@@ -5,15 +5,15 @@ use Rattle.std.specs.List.{AllByRecursion as Each}
 use Rattle.std.proofs.lemmas.List.Elements.{All-from_recursion, All-nil, recursion_from_All}
 use Rattle.ir_lex.specs.Quotes.{content}
 use Rattle.ir_lex.specs.Tok.{Tok}
-use Rattle.ir_read.specs.Literals.{literal}
-use Rattle.ir_read.proofs.LiteralRange.{literal_fits}
-use Rattle.ir_read.specs.declared.raw.Init as raw_init
-use Rattle.ir_read.specs.declared.raw.InitHead as raw_head
-use Rattle.ir_read.specs.declared.raw.InitHead.TheVariants as rh
-use Rattle.ir_read.specs.declared.raw.InitPart as raw_part
-use Rattle.ir_read.specs.declared.raw.InitPart.TheVariants as rp
-use Rattle.ir_read.specs.declared.raw.Operand as raw_operand
-use Rattle.ir_read.specs.declared.raw.Operand.TheVariants as ro
+use Rattle.ir_parse_parts.specs.Literals.{literal}
+use Rattle.ir_parse_parts.proofs.LiteralRange.{literal_fits}
+use Rattle.ir_parse_parts.specs.declared.raw.Init as raw_init
+use Rattle.ir_parse_parts.specs.declared.raw.InitHead as raw_head
+use Rattle.ir_parse_parts.specs.declared.raw.InitHead.TheVariants as rh
+use Rattle.ir_parse_parts.specs.declared.raw.InitPart as raw_part
+use Rattle.ir_parse_parts.specs.declared.raw.InitPart.TheVariants as rp
+use Rattle.ir_parse_parts.specs.declared.raw.Operand as raw_operand
+use Rattle.ir_parse_parts.specs.declared.raw.Operand.TheVariants as ro
 use Rattle.ir_tree.specs.Formed.{IsReg, IsShape, IsWidth}
 use Rattle.ir_tree.specs.Forms.{Form, int, pointer, array, structure}
 use Rattle.ir_tree.specs.Initials.{Initial, Initials, Levels, around, begun, headed, levels, read, tree_of}
@@ -25,14 +25,14 @@ use Rattle.ir_tree.specs.declared.init_node.InitPart.{InitPart}
 use Rattle.ir_tree.specs.declared.init_node.InitPart.TheVariants as tp
 use Rattle.ir_tree.specs.declared.operand.Operand.{Operand}
 use Rattle.ir_tree.specs.declared.operand.Operand.TheVariants as to
-use Rattle.ir_names.specs.declared.locals.Sort.TheVariants.{Value}
-use Rattle.ir_names.specs.Addresses.{offset_behind}
-use Rattle.ir_names.specs.Bodies.{align_or, operand_in}
-use Rattle.ir_names.specs.Locals.{none_known}
-use Rattle.ir_names.specs.Resolving.{◌>>=◌}
-use Rattle.ir_names.specs.Symbols.{symbol_of}
-use Rattle.ir_names.specs.Types.{Types, is_width, expanded}
-use Rattle.ir_names.specs.Variables.{constant_for, constant_type, head_in, init_if, init_in, literal_or, number_for, part_in, variable_in}
+use Rattle.ir_parse_names.specs.declared.locals.Sort.TheVariants.{Value}
+use Rattle.ir_parse_names.specs.Addresses.{offset_behind}
+use Rattle.ir_parse_names.specs.Bodies.{align_or, operand_in}
+use Rattle.ir_parse_names.specs.Locals.{none_known}
+use Rattle.ir_parse_names.specs.Resolving.{◌>>=◌}
+use Rattle.ir_parse_names.specs.Symbols.{symbol_of}
+use Rattle.ir_parse_names.specs.Types.{Types, is_width, expanded}
+use Rattle.ir_parse_names.specs.Variables.{constant_for, constant_type, head_in, init_if, init_in, literal_or, number_for, part_in, variable_in}
 use Rattle.ir_parse.specs.Resolved.{VariablesAreFormed}
 use Rattle.ir_parse.specs.Written.{HeadWritten, InitWritten, OperandWritten, PartWritten}
 use Rattle.ir_parse.proofs.ResolvedAlignments.{aligned, shape_align}

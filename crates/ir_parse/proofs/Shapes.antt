@@ -5,18 +5,18 @@ use Rattle.std.proofs.lemmas.Bool.{and_parts}
 use Rattle.ir_lex.specs.TokenKinds.{number}
 use Rattle.ir_lex.specs.Tok.{Tok}
 use Rattle.ir_lex.specs.declared.token_kind.TokenKind.TheVariants as kinds
-use Rattle.ir_read.specs.Alphabet.{contains}
-use Rattle.ir_read.specs.Forms.{Form}
-use Rattle.ir_read.specs.Rules.{in_range, is_valued}
-use Rattle.ir_read.specs.Classes.{tokens}
-use Rattle.ir_operands.specs.Extents.{extent_of, grown, left, no_bytes, shared, whole}
-use Rattle.ir_read.specs.Operands.{LOCAL, SCALAR, memory_refusal, named, width}
-use Rattle.ir_operands.specs.ShapeForms.{array_of, elements, further, has_room, is_leaf, leaf, members, memory_shape, more_members, packed_behind, packed_of, scalar_typed, shape, shape_over, structure_of, type_name, typed}
-use Rattle.ir_read.specs.Shapes as written
-use Rattle.ir_read.specs.Shapes.{Written, int, pointer, parts_of}
-use Rattle.ir_operands.specs.declared.extents.Extent.{Extent}
-use Rattle.ir_operands.specs.declared.extents.Room.{Room}
-use Rattle.ir_read.specs.declared.shape.Typed.{Typed}
+use Rattle.ir_parse_parts.specs.Alphabet.{contains}
+use Rattle.ir_parse_parts.specs.Forms.{Form}
+use Rattle.ir_parse_parts.specs.Rules.{in_range, is_valued}
+use Rattle.ir_parse_parts.specs.Classes.{tokens}
+use Rattle.ir_parse_operands.specs.Extents.{extent_of, grown, left, no_bytes, shared, whole}
+use Rattle.ir_parse_parts.specs.Operands.{LOCAL, SCALAR, memory_refusal, named, width}
+use Rattle.ir_parse_operands.specs.ShapeForms.{array_of, elements, further, has_room, is_leaf, leaf, members, memory_shape, more_members, packed_behind, packed_of, scalar_typed, shape, shape_over, structure_of, type_name, typed}
+use Rattle.ir_parse_parts.specs.Shapes as written
+use Rattle.ir_parse_parts.specs.Shapes.{Written, int, pointer, parts_of}
+use Rattle.ir_parse_operands.specs.declared.extents.Extent.{Extent}
+use Rattle.ir_parse_operands.specs.declared.extents.Room.{Room}
+use Rattle.ir_parse_parts.specs.declared.shape.Typed.{Typed}
 use Rattle.ir_tree.specs.Formed.{IsScalar}
 use Rattle.ir_tree.specs.declared.operand.Reg.TheVariants.{Int, Ptr}
 use Rattle.ir_parse.specs.Written.{ShapeWritten, PartsWritten}

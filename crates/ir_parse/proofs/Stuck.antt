@@ -4,17 +4,17 @@ use Rattle.std.proofs.lemmas.List.{append-nil, length-append, length-map, drop-m
 use Rattle.ir_lex.specs.TokenKinds.{number}
 use Rattle.ir_lex.specs.Tok.{Tok, tok, toks}
 use Rattle.ir_lex.specs.declared.token.Token.{Token}
-use Rattle.ir_read.specs.Alphabet.{among}
-use Rattle.ir_read.specs.Faults.{Dead, Extends, StopsAt}
-use Rattle.ir_read.specs.Lawful.{Lawful}
-use Rattle.ir_read.specs.Readers.{Reader}
-use Rattle.ir_read.specs.declared.fault.Fault.{Fault}
-use Rattle.ir_read.specs.declared.fault.TokenFault.TheVariants.{Number}
-use Rattle.ir_read.proofs.Composed.{cut_is}
-use Rattle.ir_read.proofs.Whole as whole
-use Rattle.ir_read.specs.Classes.{tokens}
-use Rattle.ir_read.specs.declared.raw.Item.{Item}
-use Rattle.ir_heads.proofs.FunctionHeadRules.{name_not_number}
+use Rattle.ir_parse_parts.specs.Alphabet.{among}
+use Rattle.ir_parse_parts.specs.Faults.{Dead, Extends, StopsAt}
+use Rattle.ir_parse_parts.specs.Lawful.{Lawful}
+use Rattle.ir_parse_parts.specs.Readers.{Reader}
+use Rattle.ir_parse_parts.specs.declared.fault.Fault.{Fault}
+use Rattle.ir_parse_parts.specs.declared.fault.TokenFault.TheVariants.{Number}
+use Rattle.ir_parse_parts.proofs.Composed.{cut_is}
+use Rattle.ir_parse_parts.proofs.Whole as whole
+use Rattle.ir_parse_parts.specs.Classes.{tokens}
+use Rattle.ir_parse_parts.specs.declared.raw.Item.{Item}
+use Rattle.ir_parse_heads.proofs.FunctionHeadRules.{name_not_number}
 use Rattle.ir_parse.specs.ItemFormsAt.{ITEM, items_at}
 use Rattle.ir_parse.specs.Modules.{FURTHER_PARAMETERS, GLOBAL_NAMES, any_module, item_refusal, last_tokens, module_of, whole_module}
 use Rattle.ir_parse.proofs.ItemRules.{ANY, items_rule}

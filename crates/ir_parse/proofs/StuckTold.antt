@@ -3,17 +3,17 @@ use Rattle.std.proofs.Common.{◌≡◌, ℕ, Bool, true, false, cond, ◌||◌,
 use Rattle.ir_lex.specs.TokenKinds.{number}
 use Rattle.ir_lex.specs.Tok.{Tok}
 use Rattle.ir_lex.specs.declared.token_kind.TokenKind.TheVariants as kinds
-use Rattle.ir_read.specs.Alphabet.{among, contains, is_literal}
-use Rattle.ir_read.specs.Faults as faults
-use Rattle.ir_read.specs.Faults.{FitsBound, FitsKind}
-use Rattle.ir_read.specs.declared.fault.Fault.{Fault}
-use Rattle.ir_read.specs.declared.fault.TokenFault.{TokenFault}
-use Rattle.ir_read.specs.declared.fault.TokenFault.TheVariants.{Syntax, Profile, Number, Limit}
-use Rattle.ir_read.proofs.Composed.{cons_is, cut_is, wrong}
-use Rattle.ir_read.proofs.Rules.{apart_from}
-use Rattle.ir_read.specs.Classes.{tokens}
-use Rattle.ir_heads.specs.FunctionHeads.{NUMBERED}
-use Rattle.ir_heads.specs.Targets.{STRING}
+use Rattle.ir_parse_parts.specs.Alphabet.{among, contains, is_literal}
+use Rattle.ir_parse_parts.specs.Faults as faults
+use Rattle.ir_parse_parts.specs.Faults.{FitsBound, FitsKind}
+use Rattle.ir_parse_parts.specs.declared.fault.Fault.{Fault}
+use Rattle.ir_parse_parts.specs.declared.fault.TokenFault.{TokenFault}
+use Rattle.ir_parse_parts.specs.declared.fault.TokenFault.TheVariants.{Syntax, Profile, Number, Limit}
+use Rattle.ir_parse_parts.proofs.Composed.{cons_is, cut_is, wrong}
+use Rattle.ir_parse_parts.proofs.Rules.{apart_from}
+use Rattle.ir_parse_parts.specs.Classes.{tokens}
+use Rattle.ir_parse_heads.specs.FunctionHeads.{NUMBERED}
+use Rattle.ir_parse_heads.specs.Targets.{STRING}
 use Rattle.ir_parse.specs.Modules.{any_module, module_of, whole_module}
 use Rattle.ir_parse.specs.Kinds.{grammar_fault}
 use Rattle.ir_parse.specs.Refusals.{BeginsVector, GoesOn, INTEGER, IsRefusedFor, LeftOut, MARKER, NumberGoesOn, REFUSED_EVERYWHERE, TARGET, TYPE, WithinRange, everywhere, of_integer, of_marker, of_name, of_target, of_type, of_vector}

@@ -6,27 +6,27 @@ use Rattle.ir_lex.specs.declared.token_kind.TokenKind.{TokenKind}
 use Rattle.ir_lex.specs.TokenKinds.{number}
 use Rattle.ir_lex.specs.Rows.{begins as begins_by}
 use Rattle.ir_lex.specs.Tok.{Tok}
-use Rattle.ir_read.specs.declared.fault.Fault.{Fault}
-use Rattle.ir_read.specs.declared.fault.TokenFault.{TokenFault}
-use Rattle.ir_read.specs.declared.fault.TokenFault.TheVariants.{Syntax, Profile, Number, Limit}
-use Rattle.ir_read.specs.Alphabet.{among, contains}
-use Rattle.ir_read.specs.Balanced.{Brackets, Move, opens, closes, stays, moved, none_open}
-use Rattle.ir_read.specs.Balanced as balanced
-use Rattle.ir_read.specs.Chained.{stops_here, chain_within, chain_at}
-use Rattle.ir_read.specs.Forms.{Form}
-use Rattle.ir_read.specs.Readers.{Reader, fault_at, done, follow, ◌>>=◌, token_means, token_at, pick, many_at, star_at, optional_at}
-use Rattle.ir_read.specs.Rules.{Rule, disjoint, subset, in_range, is_class, is_among, is_exact, is_valued}
-use Rattle.ir_read.specs.Runs.{Step, bad, last, onward, run_at}
-use Rattle.ir_read.proofs.Rules.{apart_from, within_of}
-use Rattle.ir_read.specs.Brackets.{brackets, opening, move_of, group_at}
-use Rattle.ir_read.specs.Classes.{tokens, REFUSED, refusal, the_at, one_of_at}
-use Rattle.ir_read.specs.Decimals.{ALIGNMENTS, alignment_of, decimal, is_alignment}
-use Rattle.ir_heads.specs.FunctionHeads.{NUMBERED, name_refusal}
-use Rattle.ir_read.specs.Metadata.{ended_by, line_step, open_behind}
-use Rattle.ir_read.specs.Operands.{REFUSED_TYPES, memory_refusal, type_refusal}
-use Rattle.ir_operands.specs.ShapeForms.{OPEN_ANGLE, angle_refusal}
-use Rattle.ir_operands.specs.ShapeFormsAt.{brace_behind_angle_at}
-use Rattle.ir_read.specs.declared.brackets.Bracket.{Bracket}
+use Rattle.ir_parse_parts.specs.declared.fault.Fault.{Fault}
+use Rattle.ir_parse_parts.specs.declared.fault.TokenFault.{TokenFault}
+use Rattle.ir_parse_parts.specs.declared.fault.TokenFault.TheVariants.{Syntax, Profile, Number, Limit}
+use Rattle.ir_parse_parts.specs.Alphabet.{among, contains}
+use Rattle.ir_parse_parts.specs.Balanced.{Brackets, Move, opens, closes, stays, moved, none_open}
+use Rattle.ir_parse_parts.specs.Balanced as balanced
+use Rattle.ir_parse_parts.specs.Chained.{stops_here, chain_within, chain_at}
+use Rattle.ir_parse_parts.specs.Forms.{Form}
+use Rattle.ir_parse_parts.specs.Readers.{Reader, fault_at, done, follow, ◌>>=◌, token_means, token_at, pick, many_at, star_at, optional_at}
+use Rattle.ir_parse_parts.specs.Rules.{Rule, disjoint, subset, in_range, is_class, is_among, is_exact, is_valued}
+use Rattle.ir_parse_parts.specs.Runs.{Step, bad, last, onward, run_at}
+use Rattle.ir_parse_parts.proofs.Rules.{apart_from, within_of}
+use Rattle.ir_parse_parts.specs.Brackets.{brackets, opening, move_of, group_at}
+use Rattle.ir_parse_parts.specs.Classes.{tokens, REFUSED, refusal, the_at, one_of_at}
+use Rattle.ir_parse_parts.specs.Decimals.{ALIGNMENTS, alignment_of, decimal, is_alignment}
+use Rattle.ir_parse_heads.specs.FunctionHeads.{NUMBERED, name_refusal}
+use Rattle.ir_parse_parts.specs.Metadata.{ended_by, line_step, open_behind}
+use Rattle.ir_parse_parts.specs.Operands.{REFUSED_TYPES, memory_refusal, type_refusal}
+use Rattle.ir_parse_operands.specs.ShapeForms.{OPEN_ANGLE, angle_refusal}
+use Rattle.ir_parse_operands.specs.ShapeFormsAt.{brace_behind_angle_at}
+use Rattle.ir_parse_parts.specs.declared.brackets.Bracket.{Bracket}
 use Rattle.ir_parse.specs.Refusals.{BeginsVector, INTEGER, MARKER, REFUSED_EVERYWHERE, TARGET, TYPE, last_is}
 
 -- what is left out in some places

@@ -2,17 +2,17 @@
 use Rattle.ir_parse.proofs.Told.{Tells, takes_of, seq, nothing, alt, star, maybe, single, valued, any, the_told, one_told, refusal_refuses, group_told, is_alignment_allowed}
 use Rattle.std.specs.Prelude.{ℕ, List}
 use Rattle.ir_lex.specs.declared.token_kind.TokenKind.TheVariants as kinds
-use Rattle.ir_read.specs.Alphabet.{among}
-use Rattle.ir_heads.specs.Attributes.{WORDS, CALL_WORDS, GROUP_WORDS, GROUP, word_kept}
-use Rattle.ir_read.specs.Classes.{tokens, refusal}
-use Rattle.ir_read.specs.Decimals.{is_alignment}
-use Rattle.ir_read.specs.Metadata.{META}
-use Rattle.ir_read.specs.MetadataAt.{PAREN}
+use Rattle.ir_parse_parts.specs.Alphabet.{among}
+use Rattle.ir_parse_heads.specs.Attributes.{WORDS, CALL_WORDS, GROUP_WORDS, GROUP, word_kept}
+use Rattle.ir_parse_parts.specs.Classes.{tokens, refusal}
+use Rattle.ir_parse_parts.specs.Decimals.{is_alignment}
+use Rattle.ir_parse_parts.specs.Metadata.{META}
+use Rattle.ir_parse_parts.specs.MetadataAt.{PAREN}
 use Rattle.ir_parse.proofs.ToldMetadata.{attached_told}
-use Rattle.ir_read.specs.Operands.{group_named}
-use Rattle.ir_read.specs.declared.brackets.Bracket.TheVariants.{Paren}
-use Rattle.ir_heads.specs.AttributesAt.{NUMBER, EQUALS, STRING, ALIGN, PARAMETER_WORD, PARAMETER_GROUP, PARAMETER, CALL, DEFINITION, aligned_at, parameter_attribute_at, parameter_attributes_at, word_tail_at, word_attribute_at, string_value_at, string_attribute_at, function_attribute_at, group_name_at, group_attribute_at, call_attribute_at, call_attributes_at, head_alignment_at, head_attribute_at, attached_attribute_at, definition_attribute_at, definition_attributes_at, GROUPED, grouped_at, attribute_group_at}
-use Rattle.ir_heads.proofs.AttributeRules.{grouped_attribute_rule}
+use Rattle.ir_parse_parts.specs.Operands.{group_named}
+use Rattle.ir_parse_parts.specs.declared.brackets.Bracket.TheVariants.{Paren}
+use Rattle.ir_parse_heads.specs.AttributesAt.{NUMBER, EQUALS, STRING, ALIGN, PARAMETER_WORD, PARAMETER_GROUP, PARAMETER, CALL, DEFINITION, aligned_at, parameter_attribute_at, parameter_attributes_at, word_tail_at, word_attribute_at, string_value_at, string_attribute_at, function_attribute_at, group_name_at, group_attribute_at, call_attribute_at, call_attributes_at, head_alignment_at, head_attribute_at, attached_attribute_at, definition_attribute_at, definition_attributes_at, GROUPED, grouped_at, attribute_group_at}
+use Rattle.ir_parse_heads.proofs.AttributeRules.{grouped_attribute_rule}
 use Rattle.std.proofs.Common.{refl}
 
 pub aligned_told : Tells aligned_at

@@ -3,19 +3,19 @@ use Rattle.ir_parse.proofs.Told.{Tells, seq, nothing, alt, barred, many, valued,
 use Rattle.std.specs.Prelude.{ℕ, Option, Some, None}
 use Rattle.ir_lex.specs.declared.token_kind.TokenKind.TheVariants as kinds
 use Rattle.ir_lex.specs.Tok.{Tok}
-use Rattle.ir_read.specs.Alphabet.{among}
+use Rattle.ir_parse_parts.specs.Alphabet.{among}
 use Rattle.ir_parse.proofs.ToldAttributes.{definition_attributes_told}
-use Rattle.ir_read.specs.Classes.{tokens, refusal}
-use Rattle.ir_heads.specs.declared.function_heads.Role.TheVariants as roles
-use Rattle.ir_read.specs.declared.raw.Block.{Block}
-use Rattle.ir_read.specs.declared.raw.FunctionHeader.{FunctionHeader}
+use Rattle.ir_parse_parts.specs.Classes.{tokens, refusal}
+use Rattle.ir_parse_heads.specs.declared.function_heads.Role.TheVariants as roles
+use Rattle.ir_parse_parts.specs.declared.raw.Block.{Block}
+use Rattle.ir_parse_parts.specs.declared.raw.FunctionHeader.{FunctionHeader}
 use Rattle.ir_parse.proofs.ToldFunctionHeads.{head_told}
-use Rattle.ir_read.specs.Operands.{named}
+use Rattle.ir_parse_parts.specs.Operands.{named}
 use Rattle.ir_parse.proofs.ToldTerminators.{terminator_told}
-use Rattle.ir_bodies.specs.Blocks.{LABEL, FURTHER_BLOCKS, INSTRUCTIONS, with_kept}
-use Rattle.ir_bodies.specs.LinesAt.{LINE}
+use Rattle.ir_parse_bodies.specs.Blocks.{LABEL, FURTHER_BLOCKS, INSTRUCTIONS, with_kept}
+use Rattle.ir_parse_bodies.specs.LinesAt.{LINE}
 use Rattle.ir_parse.proofs.ToldLines.{line_told}
-use Rattle.ir_bodies.specs.BlocksAt.{BLOCK, label_at, all_lines_at, lines_at, block_behind_at, block_at, further_blocks_at, blocks_behind_at, blocks_at, defined_at, definition_at}
+use Rattle.ir_parse_bodies.specs.BlocksAt.{BLOCK, label_at, all_lines_at, lines_at, block_behind_at, block_at, further_blocks_at, blocks_behind_at, blocks_at, defined_at, definition_at}
 use Rattle.std.proofs.Common.{zero, suc, refl}
 
 pub label_told : Tells label_at

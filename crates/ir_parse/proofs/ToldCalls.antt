@@ -6,22 +6,22 @@ use Rattle.ir_lex.specs.TokenKinds.{number}
 use Rattle.ir_lex.specs.Tok.{Tok}
 use Rattle.ir_tree.specs.declared.operand.Reg.{Reg}
 use Rattle.ir_tree.specs.declared.operand.Reg.TheVariants.{Ptr}
-use Rattle.ir_read.specs.Alphabet.{among}
+use Rattle.ir_parse_parts.specs.Alphabet.{among}
 use Rattle.ir_parse.proofs.ToldAttributes.{parameter_attribute_told, parameter_attributes_told, call_attributes_told}
-use Rattle.ir_read.specs.Classes.{tokens, itself, refusal}
-use Rattle.ir_read.specs.declared.raw.Argument.{Argument}
-use Rattle.ir_read.specs.declared.raw.Operand.{Operand}
+use Rattle.ir_parse_parts.specs.Classes.{tokens, itself, refusal}
+use Rattle.ir_parse_parts.specs.declared.raw.Argument.{Argument}
+use Rattle.ir_parse_parts.specs.declared.raw.Operand.{Operand}
 use Rattle.ir_parse.proofs.ToldFunctionHeads.{end_of_none_told}
-use Rattle.ir_read.specs.MetadataAt.{COMMA, PAREN}
+use Rattle.ir_parse_parts.specs.MetadataAt.{COMMA, PAREN}
 use Rattle.ir_parse.proofs.ToldMetadata.{attachments_told}
-use Rattle.ir_read.specs.Operands.{REG, type_refusal, reg_of, classes_of, operand_of}
+use Rattle.ir_parse_parts.specs.Operands.{REG, type_refusal, reg_of, classes_of, operand_of}
 use Rattle.ir_parse.proofs.ToldOperands.{reg_told, result_told}
-use Rattle.ir_operands.specs.ValuesAt.{ADDRESS}
+use Rattle.ir_parse_operands.specs.ValuesAt.{ADDRESS}
 use Rattle.ir_parse.proofs.ToldValues.{address_told, operand_told}
-use Rattle.ir_bodies.specs.Calls.{is_type, marker_refusal}
-use Rattle.ir_bodies.specs.CallsAt.{CONVENTION, CONVENTIONS, MARKER, convention_at, conventions_at, written_type_at, further_type_at, types_behind_at, some_types_at, listed_types_at, types_at, argument_behind_at, argument_at, further_argument_at, arguments_behind_at, some_arguments_at, any_arguments_at, type_again_at, argument_of_at, further_of_at, each_further_at, each_behind_at, some_of_at, arguments_of_at, arguments_at, called_value_at, marker_at, unmarked_at, unmarked_value_at, callee_at, maybe_types_at, called_at, calling_with_at, calling_of_at, calling_at, tail_calling_at}
+use Rattle.ir_parse_bodies.specs.Calls.{is_type, marker_refusal}
+use Rattle.ir_parse_bodies.specs.CallsAt.{CONVENTION, CONVENTIONS, MARKER, convention_at, conventions_at, written_type_at, further_type_at, types_behind_at, some_types_at, listed_types_at, types_at, argument_behind_at, argument_at, further_argument_at, arguments_behind_at, some_arguments_at, any_arguments_at, type_again_at, argument_of_at, further_of_at, each_further_at, each_behind_at, some_of_at, arguments_of_at, arguments_at, called_value_at, marker_at, unmarked_at, unmarked_value_at, callee_at, maybe_types_at, called_at, calling_with_at, calling_of_at, calling_at, tail_calling_at}
 use Rattle.std.proofs.Common.{nat_eq, Bool, true, false, cond, ◌≡◌, refl}
-use Rattle.ir_read.specs.declared.fault.TokenFault.TheVariants.{Syntax}
+use Rattle.ir_parse_parts.specs.declared.fault.TokenFault.TheVariants.{Syntax}
 
 pub convention_told : Tells convention_at
 unfolding convention_at

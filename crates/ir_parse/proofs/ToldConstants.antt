@@ -2,12 +2,12 @@
 use Rattle.ir_parse.proofs.Told.{Tells, seq, nothing, alt, valued, refusal_refuses}
 use Rattle.std.specs.Prelude.{Option}
 use Rattle.ir_tree.specs.declared.operand.Reg.{Reg}
-use Rattle.ir_read.specs.Alphabet.{among}
-use Rattle.ir_read.specs.Classes.{tokens, refusal}
-use Rattle.ir_operands.specs.ValuesAt.{ADDRESS}
+use Rattle.ir_parse_parts.specs.Alphabet.{among}
+use Rattle.ir_parse_parts.specs.Classes.{tokens, refusal}
+use Rattle.ir_parse_operands.specs.ValuesAt.{ADDRESS}
 use Rattle.ir_parse.proofs.ToldValues.{address_told}
-use Rattle.ir_globals.specs.Constants.{CONSTANTS, constant_of}
-use Rattle.ir_globals.specs.ConstantsAt.{single_at, constant_at}
+use Rattle.ir_parse_globals.specs.Constants.{CONSTANTS, constant_of}
+use Rattle.ir_parse_globals.specs.ConstantsAt.{single_at, constant_at}
 use Rattle.std.proofs.Common.{refl}
 
 pub single_told : (scalar : Option Reg) → Tells (single_at scalar)

@@ -4,20 +4,20 @@ use Rattle.std.specs.Prelude.{ℕ, Bool, true, false, List, [], ◌∷◌, ◌++
 use Rattle.ir_lex.specs.declared.token_kind.TokenKind.TheVariants as kinds
 use Rattle.ir_lex.specs.TokenKinds.{number}
 use Rattle.ir_tree.specs.declared.function.Linkage.{Linkage}
-use Rattle.ir_read.specs.Alphabet.{among}
+use Rattle.ir_parse_parts.specs.Alphabet.{among}
 use Rattle.ir_parse.proofs.ToldAttributes.{parameter_attribute_told, parameter_attributes_told}
-use Rattle.ir_read.specs.Classes.{tokens}
-use Rattle.ir_heads.specs.FunctionHeads.{linkages_of, linkage_word, QUALIFIERS, nothing_of, at_will, names_of, name_refusal, NUMBERED, GLOBAL, is_local}
-use Rattle.ir_read.specs.MetadataAt.{COMMA}
-use Rattle.ir_read.specs.Operands.{REG, LOCAL, global_named, type_refusal}
+use Rattle.ir_parse_parts.specs.Classes.{tokens}
+use Rattle.ir_parse_heads.specs.FunctionHeads.{linkages_of, linkage_word, QUALIFIERS, nothing_of, at_will, names_of, name_refusal, NUMBERED, GLOBAL, is_local}
+use Rattle.ir_parse_parts.specs.MetadataAt.{COMMA}
+use Rattle.ir_parse_parts.specs.Operands.{REG, LOCAL, global_named, type_refusal}
 use Rattle.ir_parse.proofs.ToldOperands.{reg_told, result_told, local_told}
-use Rattle.ir_heads.specs.declared.function_heads.Role.{Role}
-use Rattle.ir_read.specs.declared.raw.Param.{Param}
-use Rattle.ir_heads.specs.FunctionHeadsAt.{linking_at, qualifier_at, qualifying_at, leading_at, begins_leading, prefix_at, function_name_at, param_at, further_param_at, params_behind_at, some_params_at, end_of_none_at, listed_params_at, params_at, head_at}
-use Rattle.ir_heads.proofs.FunctionHeadRules.{leading_rule}
-use Rattle.ir_read.specs.Rules.{disjoint}
+use Rattle.ir_parse_heads.specs.declared.function_heads.Role.{Role}
+use Rattle.ir_parse_parts.specs.declared.raw.Param.{Param}
+use Rattle.ir_parse_heads.specs.FunctionHeadsAt.{linking_at, qualifier_at, qualifying_at, leading_at, begins_leading, prefix_at, function_name_at, param_at, further_param_at, params_behind_at, some_params_at, end_of_none_at, listed_params_at, params_at, head_at}
+use Rattle.ir_parse_heads.proofs.FunctionHeadRules.{leading_rule}
+use Rattle.ir_parse_parts.specs.Rules.{disjoint}
 use Rattle.std.proofs.Common.{Bool, true, false, cond, ◌≡◌, refl}
-use Rattle.ir_heads.specs.declared.function_heads.Role.TheVariants as roles
+use Rattle.ir_parse_heads.specs.declared.function_heads.Role.TheVariants as roles
 use Rattle.ir_parse.specs.Refusals.{REFUSED_EVERYWHERE}
 
 pub linking_told : (role : Role) → Tells (linking_at role)

@@ -5,19 +5,19 @@ use Rattle.ir_lex.specs.declared.token_kind.TokenKind.{TokenKind}
 use Rattle.ir_lex.specs.declared.token_kind.TokenKind.TheVariants as kinds
 use Rattle.ir_lex.specs.TokenKinds.{number}
 use Rattle.ir_tree.specs.declared.operand.Reg.{Reg}
-use Rattle.ir_read.specs.Alphabet.{among}
-use Rattle.ir_read.specs.Ahead.{BRACKETS}
-use Rattle.ir_read.specs.Classes.{tokens}
-use Rattle.ir_read.specs.declared.raw.InitHead.TheVariants as inits
-use Rattle.ir_operands.specs.ShapeForms.{OPEN_ANGLE, OPEN_BRACKET, OPEN_BRACE}
+use Rattle.ir_parse_parts.specs.Alphabet.{among}
+use Rattle.ir_parse_parts.specs.Ahead.{BRACKETS}
+use Rattle.ir_parse_parts.specs.Classes.{tokens}
+use Rattle.ir_parse_parts.specs.declared.raw.InitHead.TheVariants as inits
+use Rattle.ir_parse_operands.specs.ShapeForms.{OPEN_ANGLE, OPEN_BRACKET, OPEN_BRACE}
 use Rattle.ir_parse.proofs.ToldShapeForms.{memory_shape_told}
 use Rattle.ir_parse.proofs.ToldConstants.{constant_told}
-use Rattle.ir_globals.specs.Initialisers.{scalar_of, BYTES, aggregate_of, closing_refusal, Spot, outermost, is_none}
-use Rattle.ir_globals.specs.declared.initialisers.Aggregate.{Aggregate}
-use Rattle.ir_globals.specs.declared.initialisers.Aggregate.TheVariants as aggregates
-use Rattle.ir_globals.specs.InitialisersAt.{ZEROS, zeros_at, bytes_at, array_begin_at, structure_begin_at, packed_begin_at, aggregate_begin_at, beginning_at, mark_at, angle_at, brace_at, closing_at, part_shape_at, part_at, begun_at, closed_at, CLOSER, piece_at, begins_there, there_at, listed_at, parts_at, behind_at, initialiser_at}
+use Rattle.ir_parse_globals.specs.Initialisers.{scalar_of, BYTES, aggregate_of, closing_refusal, Spot, outermost, is_none}
+use Rattle.ir_parse_globals.specs.declared.initialisers.Aggregate.{Aggregate}
+use Rattle.ir_parse_globals.specs.declared.initialisers.Aggregate.TheVariants as aggregates
+use Rattle.ir_parse_globals.specs.InitialisersAt.{ZEROS, zeros_at, bytes_at, array_begin_at, structure_begin_at, packed_begin_at, aggregate_begin_at, beginning_at, mark_at, angle_at, brace_at, closing_at, part_shape_at, part_at, begun_at, closed_at, CLOSER, piece_at, begins_there, there_at, listed_at, parts_at, behind_at, initialiser_at}
 use Rattle.std.proofs.Common.{Bool, true, false}
-use Rattle.ir_globals.proofs.InitialiserRules.{piece_rule}
+use Rattle.ir_parse_globals.proofs.InitialiserRules.{piece_rule}
 
 pub zeros_told : Tells zeros_at
 unfolding zeros_at

@@ -3,34 +3,34 @@ use Rattle.ir_parse.proofs.Told.{Tells, takes_of, seq, nothing, alt, barred, sta
 use Rattle.std.specs.Prelude.{ℕ, Bool, nat_eq}
 use Rattle.ir_lex.specs.declared.token_kind.TokenKind.TheVariants as kinds
 use Rattle.ir_lex.specs.Tok.{Tok}
-use Rattle.ir_read.specs.Alphabet.{among}
-use Rattle.ir_read.specs.declared.fault.TokenFault.TheVariants.{Limit}
-use Rattle.ir_read.specs.Readers.{Reader, fault_at, pick}
-use Rattle.ir_bodies.specs.BlocksAt.{definition_at}
+use Rattle.ir_parse_parts.specs.Alphabet.{among}
+use Rattle.ir_parse_parts.specs.declared.fault.TokenFault.TheVariants.{Limit}
+use Rattle.ir_parse_parts.specs.Readers.{Reader, fault_at, pick}
+use Rattle.ir_parse_bodies.specs.BlocksAt.{definition_at}
 use Rattle.ir_parse.proofs.ToldBlocks.{definition_told}
-use Rattle.ir_globals.specs.TypeDefinitionsAt.{type_line_at}
+use Rattle.ir_parse_globals.specs.TypeDefinitionsAt.{type_line_at}
 use Rattle.ir_parse.proofs.ToldTypeDefinitions.{type_line_told}
-use Rattle.ir_globals.specs.Variables.{NAMES}
-use Rattle.ir_globals.specs.VariablesAt.{variable_line_at}
+use Rattle.ir_parse_globals.specs.Variables.{NAMES}
+use Rattle.ir_parse_globals.specs.VariablesAt.{variable_line_at}
 use Rattle.ir_parse.proofs.ToldVariables.{variable_line_told}
-use Rattle.ir_heads.specs.AttributesAt.{HEAD, attribute_group_at}
+use Rattle.ir_parse_heads.specs.AttributesAt.{HEAD, attribute_group_at}
 use Rattle.ir_parse.proofs.ToldAttributes.{head_attribute_told, attribute_group_told}
-use Rattle.ir_read.specs.Classes.{tokens}
+use Rattle.ir_parse_parts.specs.Classes.{tokens}
 use Rattle.ir_parse.proofs.ToldFunctionHeads.{head_told}
 use Rattle.ir_parse.specs.ItemForms.{anywhere}
-use Rattle.ir_read.specs.Metadata.{META}
-use Rattle.ir_read.specs.MetadataAt.{metadata_line_at}
+use Rattle.ir_parse_parts.specs.Metadata.{META}
+use Rattle.ir_parse_parts.specs.MetadataAt.{metadata_line_at}
 use Rattle.ir_parse.proofs.ToldMetadata.{attached_told, metadata_line_told}
-use Rattle.ir_read.specs.MetadataBehindAt.{metadata_behind_at, node_yet_at}
+use Rattle.ir_parse_parts.specs.MetadataBehindAt.{metadata_behind_at, node_yet_at}
 use Rattle.ir_parse.proofs.ToldMetadataBehind.{metadata_behind_told, node_yet_told}
-use Rattle.ir_read.specs.Operands.{LOCAL}
-use Rattle.ir_heads.specs.TargetsAt.{target_line_at, source_line_at, comdat_line_at}
+use Rattle.ir_parse_parts.specs.Operands.{LOCAL}
+use Rattle.ir_parse_heads.specs.TargetsAt.{target_line_at, source_line_at, comdat_line_at}
 use Rattle.ir_parse.proofs.ToldTargets.{target_line_told, source_line_told, comdat_line_told}
-use Rattle.ir_heads.specs.declared.function_heads.Role.TheVariants as roles
-use Rattle.ir_read.specs.declared.places.Before.{Before}
-use Rattle.ir_read.specs.declared.places.Before.TheVariants as befores
-use Rattle.ir_read.specs.declared.places.Position.{Position}
-use Rattle.ir_read.specs.declared.raw.Item.{Item}
+use Rattle.ir_parse_heads.specs.declared.function_heads.Role.TheVariants as roles
+use Rattle.ir_parse_parts.specs.declared.places.Before.{Before}
+use Rattle.ir_parse_parts.specs.declared.places.Before.TheVariants as befores
+use Rattle.ir_parse_parts.specs.declared.places.Position.{Position}
+use Rattle.ir_parse_parts.specs.declared.raw.Item.{Item}
 use Rattle.ir_parse.specs.ItemFormsAt.{SOURCE, TARGET, COMDAT, DECLARE, NAMING, left_out_at, kept_at, unnamed_at, attribute_behind_at, placed_at, metadata_there_at, plainly_at, beside_at, attached_before_at, declaration_at, naming_at, other_at, named_at, piece_at, begins_there, there_at, first_place, items_at}
 use Rattle.std.proofs.Common.{Bool, true, false, cond, nat_eq, refl}
 use Rattle.ir_parse.proofs.ItemRules.{there_rule}

@@ -4,27 +4,27 @@ use Rattle.std.specs.Prelude.{Bool, true, false}
 use Rattle.ir_lex.specs.declared.token_kind.TokenKind.TheVariants as kinds
 use Rattle.ir_lex.specs.Tok.{Tok}
 use Rattle.ir_tree.specs.declared.instr.CastOp.TheVariants as casts
-use Rattle.ir_read.specs.Alphabet.{among}
-use Rattle.ir_read.specs.Readers.{Reader}
-use Rattle.ir_instructions.specs.AddressingAt.{reserving_at, addressing_at}
+use Rattle.ir_parse_parts.specs.Alphabet.{among}
+use Rattle.ir_parse_parts.specs.Readers.{Reader}
+use Rattle.ir_parse_instructions.specs.AddressingAt.{reserving_at, addressing_at}
 use Rattle.ir_parse.proofs.ToldAddressing.{reserving_told, addressing_told}
-use Rattle.ir_read.specs.Classes.{tokens}
-use Rattle.ir_read.specs.declared.raw.Instr.{Instr}
-use Rattle.ir_instructions.specs.Instructions.{no_flags}
-use Rattle.ir_instructions.specs.InstructionsAt.{loading_at, storing_at}
+use Rattle.ir_parse_parts.specs.Classes.{tokens}
+use Rattle.ir_parse_parts.specs.declared.raw.Instr.{Instr}
+use Rattle.ir_parse_instructions.specs.Instructions.{no_flags}
+use Rattle.ir_parse_instructions.specs.InstructionsAt.{loading_at, storing_at}
 use Rattle.ir_parse.proofs.ToldInstructions.{on_two_told, wrapping_told, dividing_told, joining_told, comparing_told, casting_told, extending_told, narrowing_told, selecting_told, freezing_told, loading_told, storing_told}
 use Rattle.ir_parse.proofs.ToldMetadata.{attachments_told}
-use Rattle.ir_read.specs.Operands.{LOCAL}
+use Rattle.ir_parse_parts.specs.Operands.{LOCAL}
 use Rattle.ir_parse.proofs.ToldOperands.{local_told}
-use Rattle.ir_instructions.specs.PhisAt.{phi_at}
+use Rattle.ir_parse_instructions.specs.PhisAt.{phi_at}
 use Rattle.ir_parse.proofs.ToldPhis.{phi_told}
 use Rattle.ir_parse.proofs.ToldCalls.{calling_told, tail_calling_told}
-use Rattle.ir_bodies.specs.Lines.{GIVING, OPCODES, opcode_of, begun_of}
-use Rattle.ir_bodies.specs.declared.opcodes.Opcode.{Opcode}
-use Rattle.ir_bodies.specs.declared.opcodes.Opcode.TheVariants as opcodes
-use Rattle.ir_bodies.specs.declared.opcodes.Operation.{Operation}
-use Rattle.ir_bodies.specs.declared.opcodes.Operation.TheVariants as operations
-use Rattle.ir_bodies.specs.LinesAt.{operation_at, attended_at, some_at, behind_at, line_behind_at, named_line_at, plain_line_at, line_at}
+use Rattle.ir_parse_bodies.specs.Lines.{GIVING, OPCODES, opcode_of, begun_of}
+use Rattle.ir_parse_bodies.specs.declared.opcodes.Opcode.{Opcode}
+use Rattle.ir_parse_bodies.specs.declared.opcodes.Opcode.TheVariants as opcodes
+use Rattle.ir_parse_bodies.specs.declared.opcodes.Operation.{Operation}
+use Rattle.ir_parse_bodies.specs.declared.opcodes.Operation.TheVariants as operations
+use Rattle.ir_parse_bodies.specs.LinesAt.{operation_at, attended_at, some_at, behind_at, line_behind_at, named_line_at, plain_line_at, line_at}
 
 pub operation_told : (x0 : Operation) → Tells (operation_at x0)
 operation_told (operations.Wrapping op) = wrapping_told op

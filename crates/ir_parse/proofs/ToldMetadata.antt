@@ -2,11 +2,11 @@
 use Rattle.ir_parse.proofs.Told.{Tells, run_line_told, seq, nothing, alt, star, maybe, the_told, one_told, group_told}
 use Rattle.std.specs.Prelude.{Bool, true, false, []}
 use Rattle.ir_lex.specs.declared.token_kind.TokenKind.TheVariants as kinds
-use Rattle.ir_read.specs.Alphabet.{among}
-use Rattle.ir_read.specs.Classes.{tokens}
-use Rattle.ir_read.specs.Metadata.{META, ends_line}
-use Rattle.ir_read.specs.declared.brackets.Bracket.TheVariants.{Paren, Curly}
-use Rattle.ir_read.specs.MetadataAt.{PAREN, CURLY, NAMED, COMMA, node_at, attached_at, attachment_at, attachments_at, rest_of_line_at, metadata_line_at}
+use Rattle.ir_parse_parts.specs.Alphabet.{among}
+use Rattle.ir_parse_parts.specs.Classes.{tokens}
+use Rattle.ir_parse_parts.specs.Metadata.{META, ends_line}
+use Rattle.ir_parse_parts.specs.declared.brackets.Bracket.TheVariants.{Paren, Curly}
+use Rattle.ir_parse_parts.specs.MetadataAt.{PAREN, CURLY, NAMED, COMMA, node_at, attached_at, attachment_at, attachments_at, rest_of_line_at, metadata_line_at}
 use Rattle.std.proofs.Common.{refl}
 
 pub node_told : Tells node_at

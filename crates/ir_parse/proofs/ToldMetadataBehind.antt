@@ -3,18 +3,18 @@ use Rattle.ir_parse.proofs.Told.{Tells, line_step_fits, run_line_told, seq, noth
 use Rattle.std.specs.Prelude.{ℕ, Bool, true, false, List, []}
 use Rattle.ir_lex.specs.declared.token_kind.TokenKind.TheVariants as kinds
 use Rattle.ir_lex.specs.Tok.{Tok}
-use Rattle.ir_read.specs.Alphabet.{among}
-use Rattle.ir_read.specs.Runs.{Step, bad, last, onward}
-use Rattle.ir_read.specs.Classes.{tokens}
-use Rattle.ir_read.specs.declared.brackets.Bracket.{Bracket}
-use Rattle.ir_read.specs.declared.brackets.Bracket.TheVariants.{Paren, Curly}
-use Rattle.ir_read.specs.Metadata.{META, ends_line, line_step}
-use Rattle.ir_read.specs.MetadataAt.{PAREN, CURLY, NAMED}
-use Rattle.ir_read.specs.MetadataBehind.{BANG, BRACES, line_goes_on, fitting}
-use Rattle.ir_read.specs.MetadataBehindAt.{line_rest_at, goes_on_but_at, named_node_at, line_end_or_at, behind_mark_at, marked_at, node_yet_at, node_or_line_at, behind_name_at, metadata_behind_at}
-use Rattle.ir_read.specs.Rules.{disjoint}
+use Rattle.ir_parse_parts.specs.Alphabet.{among}
+use Rattle.ir_parse_parts.specs.Runs.{Step, bad, last, onward}
+use Rattle.ir_parse_parts.specs.Classes.{tokens}
+use Rattle.ir_parse_parts.specs.declared.brackets.Bracket.{Bracket}
+use Rattle.ir_parse_parts.specs.declared.brackets.Bracket.TheVariants.{Paren, Curly}
+use Rattle.ir_parse_parts.specs.Metadata.{META, ends_line, line_step}
+use Rattle.ir_parse_parts.specs.MetadataAt.{PAREN, CURLY, NAMED}
+use Rattle.ir_parse_parts.specs.MetadataBehind.{BANG, BRACES, line_goes_on, fitting}
+use Rattle.ir_parse_parts.specs.MetadataBehindAt.{line_rest_at, goes_on_but_at, named_node_at, line_end_or_at, behind_mark_at, marked_at, node_yet_at, node_or_line_at, behind_name_at, metadata_behind_at}
+use Rattle.ir_parse_parts.specs.Rules.{disjoint}
 use Rattle.std.proofs.Common.{Err, cond, true, false, Bool, ◌≡◌, refl}
-use Rattle.ir_read.specs.declared.fault.TokenFault.TheVariants.{Syntax}
+use Rattle.ir_parse_parts.specs.declared.fault.TokenFault.TheVariants.{Syntax}
 use Rattle.ir_parse.specs.Refusals.{REFUSED_EVERYWHERE}
 
 pub line_rest_told : (s : Step (List Bracket)) → Tells (line_rest_at s)

@@ -2,18 +2,18 @@
 use Rattle.std.proofs.Common.{◌≡◌, true, List, [], ◌∷◌, ◌++◌, length, Result, Ok, Err, refl, subst, inl}
 use Rattle.ir_lex.specs.TokenKinds.{number}
 use Rattle.ir_lex.specs.Tok.{Tok}
-use Rattle.ir_read.specs.Alphabet.{among}
-use Rattle.ir_read.specs.Faults.{FitsBound, FitsKind, StopsAt}
-use Rattle.ir_read.specs.Lawful.{Lawful}
-use Rattle.ir_read.specs.Readers.{Reader, ended, whole_of}
-use Rattle.ir_read.specs.declared.fault.Fault.{Fault}
-use Rattle.ir_read.specs.declared.fault.TokenFault.TheVariants.{Number, Limit}
-use Rattle.ir_read.proofs.Composed.{wrong, wrong_is}
-use Rattle.ir_read.proofs.Bounds.{whole_bound}
-use Rattle.ir_read.proofs.Whole as whole
-use Rattle.ir_read.specs.Classes.{tokens}
-use Rattle.ir_read.specs.declared.raw.Item.{Item}
-use Rattle.ir_heads.proofs.FunctionHeadRules.{name_not_limit, name_not_number}
+use Rattle.ir_parse_parts.specs.Alphabet.{among}
+use Rattle.ir_parse_parts.specs.Faults.{FitsBound, FitsKind, StopsAt}
+use Rattle.ir_parse_parts.specs.Lawful.{Lawful}
+use Rattle.ir_parse_parts.specs.Readers.{Reader, ended, whole_of}
+use Rattle.ir_parse_parts.specs.declared.fault.Fault.{Fault}
+use Rattle.ir_parse_parts.specs.declared.fault.TokenFault.TheVariants.{Number, Limit}
+use Rattle.ir_parse_parts.proofs.Composed.{wrong, wrong_is}
+use Rattle.ir_parse_parts.proofs.Bounds.{whole_bound}
+use Rattle.ir_parse_parts.proofs.Whole as whole
+use Rattle.ir_parse_parts.specs.Classes.{tokens}
+use Rattle.ir_parse_parts.specs.declared.raw.Item.{Item}
+use Rattle.ir_parse_heads.proofs.FunctionHeadRules.{name_not_limit, name_not_number}
 use Rattle.ir_parse.specs.ItemFormsAt.{ITEM, items_at}
 use Rattle.ir_parse.specs.Modules.{FURTHER_PARAMETERS, GLOBAL_NAMES, any_module, item_refusal, module_of, whole_module}
 use Rattle.ir_parse.proofs.ItemRules.{ANY, items_rule}

@@ -4,11 +4,11 @@ use Rattle.std.specs.Prelude.{true, [], ◌∷◌}
 use Rattle.ir_lex.specs.declared.token_kind.TokenKind.{TokenKind}
 use Rattle.ir_lex.specs.TokenKinds.{number}
 use Rattle.ir_tree.specs.declared.operand.Reg.{Reg}
-use Rattle.ir_read.specs.Alphabet.{among}
-use Rattle.ir_read.specs.Classes.{tokens, refusal}
-use Rattle.ir_read.specs.Operands.{INTEGER, REG, SCALAR, RESULT, LOCAL, type_refusal, memory_refusal, width, reg_of, is_bit, result_of, named, classes_of, operand_of}
-use Rattle.ir_read.specs.OperandsAt.{reg_at, integer_at, bit_at, scalar_at, result_at, local_at, simple_at, maybe_at}
-use Rattle.ir_read.specs.Rules.{disjoint}
+use Rattle.ir_parse_parts.specs.Alphabet.{among}
+use Rattle.ir_parse_parts.specs.Classes.{tokens, refusal}
+use Rattle.ir_parse_parts.specs.Operands.{INTEGER, REG, SCALAR, RESULT, LOCAL, type_refusal, memory_refusal, width, reg_of, is_bit, result_of, named, classes_of, operand_of}
+use Rattle.ir_parse_parts.specs.OperandsAt.{reg_at, integer_at, bit_at, scalar_at, result_at, local_at, simple_at, maybe_at}
+use Rattle.ir_parse_parts.specs.Rules.{disjoint}
 use Rattle.ir_tree.specs.declared.operand.Reg.TheVariants.{Int, Ptr}
 use Rattle.ir_parse.specs.Refusals.{REFUSED_EVERYWHERE}
 use Rattle.std.proofs.Common.{◌≡◌, refl}

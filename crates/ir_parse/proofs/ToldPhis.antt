@@ -3,16 +3,16 @@ use Rattle.ir_parse.proofs.Told.{Tells, takes_of, seq, nothing, alt, chain, the_
 use Rattle.std.specs.Prelude.{Bool, true, false}
 use Rattle.ir_lex.specs.declared.token_kind.TokenKind.TheVariants as kinds
 use Rattle.ir_tree.specs.declared.operand.Reg.{Reg}
-use Rattle.ir_read.specs.Alphabet.{among}
-use Rattle.ir_read.specs.Classes.{tokens}
-use Rattle.ir_read.specs.declared.raw.Incoming.{Incoming}
-use Rattle.ir_read.specs.Metadata.{META}
+use Rattle.ir_parse_parts.specs.Alphabet.{among}
+use Rattle.ir_parse_parts.specs.Classes.{tokens}
+use Rattle.ir_parse_parts.specs.declared.raw.Incoming.{Incoming}
+use Rattle.ir_parse_parts.specs.Metadata.{META}
 use Rattle.ir_parse.proofs.ToldMetadata.{attached_told}
 use Rattle.ir_parse.proofs.ToldOperands.{reg_told, local_told}
 use Rattle.ir_parse.proofs.ToldValues.{operand_told}
-use Rattle.ir_instructions.specs.Phis.{anywhere}
-use Rattle.ir_instructions.specs.PhisAt.{incoming_at, attaching_at, entering_at, behind_comma_at, further_at, begins, entries_at, phi_of_at, phi_at}
-use Rattle.ir_instructions.proofs.PhiRules.{further_rule}
+use Rattle.ir_parse_instructions.specs.Phis.{anywhere}
+use Rattle.ir_parse_instructions.specs.PhisAt.{incoming_at, attaching_at, entering_at, behind_comma_at, further_at, begins, entries_at, phi_of_at, phi_at}
+use Rattle.ir_parse_instructions.proofs.PhiRules.{further_rule}
 
 pub incoming_told : (r : Reg) → Tells (incoming_at r)
 unfolding incoming_at

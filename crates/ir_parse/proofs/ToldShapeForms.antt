@@ -3,21 +3,21 @@ use Rattle.ir_parse.proofs.Told.{Tells, TellsBehind, Takes, behind_one, brace_be
 use Rattle.std.specs.Prelude.{ℕ, zero, suc, Bool, true, false}
 use Rattle.ir_lex.specs.declared.token_kind.TokenKind.TheVariants as kinds
 use Rattle.ir_lex.specs.Tok.{Tok}
-use Rattle.ir_read.specs.Alphabet.{among}
-use Rattle.ir_read.specs.Readers.{Reader}
-use Rattle.ir_read.specs.Rules.{is_valued}
-use Rattle.ir_read.specs.Ahead.{BRACKETS}
-use Rattle.ir_read.specs.Classes.{tokens, refusal}
-use Rattle.ir_operands.specs.declared.extents.Extent.{Extent}
-use Rattle.ir_operands.specs.declared.extents.Room.{Room}
-use Rattle.ir_read.specs.declared.shape.Typed.{Typed}
-use Rattle.ir_operands.specs.Extents.{extent_of, grown, left, no_bytes, shared, whole}
-use Rattle.ir_operands.specs.ShapeForms.{line_of, leaf_means, NUMBER, count_of, OPEN_BRACKET, OPEN_BRACE, OPEN_ANGLE, anywhere, is_leaf, too_large, has_room, scalar_typed, type_name}
-use Rattle.ir_read.specs.Shapes.{Written}
-use Rattle.ir_operands.specs.ShapeFormsAt.{CLOSE_BRACE, leaf_at, innermost_at, count_at, elements_at, array_at, further_at, begins, more_members_at, members_at, structure_at, packed_behind_at, packed_at, shape_over_at, shape_at, memory_shape_at}
+use Rattle.ir_parse_parts.specs.Alphabet.{among}
+use Rattle.ir_parse_parts.specs.Readers.{Reader}
+use Rattle.ir_parse_parts.specs.Rules.{is_valued}
+use Rattle.ir_parse_parts.specs.Ahead.{BRACKETS}
+use Rattle.ir_parse_parts.specs.Classes.{tokens, refusal}
+use Rattle.ir_parse_operands.specs.declared.extents.Extent.{Extent}
+use Rattle.ir_parse_operands.specs.declared.extents.Room.{Room}
+use Rattle.ir_parse_parts.specs.declared.shape.Typed.{Typed}
+use Rattle.ir_parse_operands.specs.Extents.{extent_of, grown, left, no_bytes, shared, whole}
+use Rattle.ir_parse_operands.specs.ShapeForms.{line_of, leaf_means, NUMBER, count_of, OPEN_BRACKET, OPEN_BRACE, OPEN_ANGLE, anywhere, is_leaf, too_large, has_room, scalar_typed, type_name}
+use Rattle.ir_parse_parts.specs.Shapes.{Written}
+use Rattle.ir_parse_operands.specs.ShapeFormsAt.{CLOSE_BRACE, leaf_at, innermost_at, count_at, elements_at, array_at, further_at, begins, more_members_at, members_at, structure_at, packed_behind_at, packed_at, shape_over_at, shape_at, memory_shape_at}
 use Rattle.std.proofs.Common.{Ok, Err, cond, ◌&&◌, ◌≡◌, refl}
-use Rattle.ir_read.specs.declared.fault.TokenFault.TheVariants.{Limit as limit}
-use Rattle.ir_read.specs.Operands.{SCALAR, LOCAL, memory_refusal}
+use Rattle.ir_parse_parts.specs.declared.fault.TokenFault.TheVariants.{Limit as limit}
+use Rattle.ir_parse_parts.specs.Operands.{SCALAR, LOCAL, memory_refusal}
 
 leaf_means_allowed : (room : Room) (t : Tok) → AllowedBy t (leaf_means room t)
 unfolding leaf_means is_leaf

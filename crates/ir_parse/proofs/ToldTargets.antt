@@ -3,12 +3,12 @@ use Rattle.ir_parse.proofs.Told.{Tells, may_of, seq, nothing, alt, single, the_t
 use Rattle.ir_lex.specs.declared.token_kind.TokenKind.TheVariants as kinds
 use Rattle.ir_lex.specs.TokenKinds.{number}
 use Rattle.ir_lex.specs.Tok.{Tok}
-use Rattle.ir_read.specs.Alphabet.{among}
-use Rattle.ir_read.specs.Classes.{tokens, itself, refusal}
-use Rattle.ir_heads.specs.Targets.{STRING, is_layout, fits_layout}
-use Rattle.ir_heads.specs.TargetsAt.{LAYOUT, layout_line_at, triple_line_at, target_line_at, source_line_at, comdat_line_at}
+use Rattle.ir_parse_parts.specs.Alphabet.{among}
+use Rattle.ir_parse_parts.specs.Classes.{tokens, itself, refusal}
+use Rattle.ir_parse_heads.specs.Targets.{STRING, is_layout, fits_layout}
+use Rattle.ir_parse_heads.specs.TargetsAt.{LAYOUT, layout_line_at, triple_line_at, target_line_at, source_line_at, comdat_line_at}
 use Rattle.std.proofs.Common.{Ok, Err, Bool, true, false, cond, nat_eq, ◌≡◌, refl}
-use Rattle.ir_read.specs.declared.fault.TokenFault.TheVariants.{Profile}
+use Rattle.ir_parse_parts.specs.declared.fault.TokenFault.TheVariants.{Profile}
 use Rattle.ir_lex.specs.Quotes.{content}
 
 is_layout_allowed : (t : Tok) → AllowedBy t (is_layout t)

@@ -1,11 +1,11 @@
 -- The first fault of the readers of type definitions is of a kind that its token allows.
 use Rattle.ir_parse.proofs.Told.{Tells, seq, nothing, alt, the_told}
 use Rattle.ir_lex.specs.declared.token_kind.TokenKind.TheVariants as kinds
-use Rattle.ir_read.specs.Alphabet.{among}
-use Rattle.ir_read.specs.Classes.{tokens}
+use Rattle.ir_parse_parts.specs.Alphabet.{among}
+use Rattle.ir_parse_parts.specs.Classes.{tokens}
 use Rattle.ir_parse.proofs.ToldOperands.{local_told}
 use Rattle.ir_parse.proofs.ToldShapeForms.{memory_shape_told}
-use Rattle.ir_globals.specs.TypeDefinitionsAt.{OPAQUE, defined_at, type_line_at}
+use Rattle.ir_parse_globals.specs.TypeDefinitionsAt.{OPAQUE, defined_at, type_line_at}
 
 pub defined_told : Tells defined_at
 unfolding defined_at

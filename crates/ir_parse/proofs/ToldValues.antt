@@ -4,16 +4,16 @@ use Rattle.std.specs.Prelude.{ℕ, List, [], ◌∷◌, reverse}
 use Rattle.ir_lex.specs.declared.token_kind.TokenKind.TheVariants as kinds
 use Rattle.ir_lex.specs.TokenKinds.{number}
 use Rattle.ir_tree.specs.declared.operand.Reg.{Reg}
-use Rattle.ir_read.specs.Alphabet.{among}
-use Rattle.ir_read.specs.Ahead.{STEPPING}
-use Rattle.ir_read.specs.Classes.{tokens, refusal}
-use Rattle.ir_read.specs.declared.shape.Typed.{Typed}
-use Rattle.ir_read.specs.MetadataAt.{COMMA}
-use Rattle.ir_read.specs.Operands.{type_refusal, global_named}
+use Rattle.ir_parse_parts.specs.Alphabet.{among}
+use Rattle.ir_parse_parts.specs.Ahead.{STEPPING}
+use Rattle.ir_parse_parts.specs.Classes.{tokens, refusal}
+use Rattle.ir_parse_parts.specs.declared.shape.Typed.{Typed}
+use Rattle.ir_parse_parts.specs.MetadataAt.{COMMA}
+use Rattle.ir_parse_parts.specs.Operands.{type_refusal, global_named}
 use Rattle.ir_parse.proofs.ToldOperands.{reg_told, integer_told, simple_told}
 use Rattle.ir_parse.proofs.ToldShapeForms.{memory_shape_told}
-use Rattle.ir_operands.specs.Values.{is_inbounds, NUMBER, index_of, GLOBAL}
-use Rattle.ir_operands.specs.ValuesAt.{ADDRESS, pointer_at, stepping_at, index_number_at, index_at, indices_at, closing_one_at, closing_at, opened_at, opening_at, openings_at, global_at, reached_at, address_behind_at, address_at, operand_at, argument_at}
+use Rattle.ir_parse_operands.specs.Values.{is_inbounds, NUMBER, index_of, GLOBAL}
+use Rattle.ir_parse_operands.specs.ValuesAt.{ADDRESS, pointer_at, stepping_at, index_number_at, index_at, indices_at, closing_one_at, closing_at, opened_at, opening_at, openings_at, global_at, reached_at, address_behind_at, address_at, operand_at, argument_at}
 use Rattle.std.proofs.Common.{refl}
 
 pub pointer_told : Tells pointer_at

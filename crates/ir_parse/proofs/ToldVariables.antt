@@ -5,19 +5,19 @@ use Rattle.ir_lex.specs.declared.token_kind.TokenKind.TheVariants as kinds
 use Rattle.ir_lex.specs.Tok.{Tok}
 use Rattle.ir_tree.specs.declared.function.Linkage.{Linkage}
 use Rattle.ir_tree.specs.declared.operand.Reg.{Reg}
-use Rattle.ir_read.specs.Alphabet.{among}
-use Rattle.ir_read.specs.Classes.{tokens}
-use Rattle.ir_read.specs.Decimals.{is_alignment}
-use Rattle.ir_heads.specs.FunctionHeads.{LINKAGES, linkage_word, QUALIFIERS, nothing_of, name_refusal}
-use Rattle.ir_instructions.specs.InstructionsAt.{ALIGN}
-use Rattle.ir_read.specs.MetadataAt.{COMMA, PAREN}
+use Rattle.ir_parse_parts.specs.Alphabet.{among}
+use Rattle.ir_parse_parts.specs.Classes.{tokens}
+use Rattle.ir_parse_parts.specs.Decimals.{is_alignment}
+use Rattle.ir_parse_heads.specs.FunctionHeads.{LINKAGES, linkage_word, QUALIFIERS, nothing_of, name_refusal}
+use Rattle.ir_parse_instructions.specs.InstructionsAt.{ALIGN}
+use Rattle.ir_parse_parts.specs.MetadataAt.{COMMA, PAREN}
 use Rattle.ir_parse.proofs.ToldMetadata.{attached_told}
-use Rattle.ir_read.specs.Operands.{global_named}
+use Rattle.ir_parse_parts.specs.Operands.{global_named}
 use Rattle.ir_parse.proofs.ToldShapeForms.{memory_shape_told}
-use Rattle.ir_globals.specs.Initialisers.{scalar_of}
+use Rattle.ir_parse_globals.specs.Initialisers.{scalar_of}
 use Rattle.ir_parse.proofs.ToldInitialisers.{initialiser_told}
-use Rattle.ir_globals.specs.Variables.{NAMES, KINDS, is_constant, is_declared}
-use Rattle.ir_globals.specs.VariablesAt.{variable_name_at, linkage_at, qualifiers_at, linked_at, value_at, comdat_name_at, in_comdat_at, aligned_at, marked_at, COMDAT, further_at, tail_at, behind_kind_at, variable_line_at}
+use Rattle.ir_parse_globals.specs.Variables.{NAMES, KINDS, is_constant, is_declared}
+use Rattle.ir_parse_globals.specs.VariablesAt.{variable_name_at, linkage_at, qualifiers_at, linked_at, value_at, comdat_name_at, in_comdat_at, aligned_at, marked_at, COMDAT, further_at, tail_at, behind_kind_at, variable_line_at}
 use Rattle.std.proofs.Common.{refl}
 
 pub variable_name_told : Tells variable_name_at

@@ -4,32 +4,32 @@ use Rattle.std.specs.List.{AllByRecursion as Each}
 use Rattle.std.specs.Prelude.{is_some}
 use Rattle.std.proofs.lemmas.List.Elements.{All-from_recursion, recursion_from_All}
 use Rattle.ir_lex.specs.Tok.{Tok}
-use Rattle.ir_names.specs.declared.fault.Fault.{Fault}
-use Rattle.ir_names.specs.Keys.{key_of}
-use Rattle.ir_names.specs.Locals.{twice}
-use Rattle.ir_names.specs.Marks.{Mark, all, block_marks, both, end_marks, head_marks, init_marks, instr_marks, item_marks, level_uses, marks_of, operand_marks, part_marks, type_name, type_use, typed_marks, uses, all_uses, uses_if, variable_marks}
-use Rattle.ir_names.specs.Resolving.{◌>>=◌}
-use Rattle.ir_names.specs.TypeNames.{all_typed, first_types, type_names, typed_by, use_in}
-use Rattle.ir_names.specs.Types.{Types, entry_of, shape_if, with_type}
-use Rattle.ir_read.specs.Shapes as written
-use Rattle.ir_read.specs.Shapes.{Written, WrittenParts}
-use Rattle.ir_read.specs.declared.address.Level.{Level}
-use Rattle.ir_read.specs.declared.raw.Block.{Block}
-use Rattle.ir_read.specs.declared.raw.Init.{Init}
-use Rattle.ir_read.specs.declared.raw.InitHead.{InitHead}
-use Rattle.ir_read.specs.declared.raw.InitHead.TheVariants as heads
-use Rattle.ir_read.specs.declared.raw.InitPart.{InitPart}
-use Rattle.ir_read.specs.declared.raw.InitPart.TheVariants as parts
-use Rattle.ir_read.specs.declared.raw.Instr.{Instr}
-use Rattle.ir_read.specs.declared.raw.Instr.TheVariants as kind
-use Rattle.ir_read.specs.declared.raw.Item.{Item}
-use Rattle.ir_read.specs.declared.raw.Item.TheVariants as item
-use Rattle.ir_read.specs.declared.raw.Operand.{Operand}
-use Rattle.ir_read.specs.declared.raw.Operand.TheVariants as operands
-use Rattle.ir_read.specs.declared.raw.Terminator.{Terminator}
-use Rattle.ir_read.specs.declared.raw.Terminator.TheVariants as end
-use Rattle.ir_read.specs.declared.raw.Variable.{Variable}
-use Rattle.ir_read.specs.declared.shape.Typed.{Typed}
+use Rattle.ir_parse_names.specs.declared.fault.Fault.{Fault}
+use Rattle.ir_parse_names.specs.Keys.{key_of}
+use Rattle.ir_parse_names.specs.Locals.{twice}
+use Rattle.ir_parse_names.specs.Marks.{Mark, all, block_marks, both, end_marks, head_marks, init_marks, instr_marks, item_marks, level_uses, marks_of, operand_marks, part_marks, type_name, type_use, typed_marks, uses, all_uses, uses_if, variable_marks}
+use Rattle.ir_parse_names.specs.Resolving.{◌>>=◌}
+use Rattle.ir_parse_names.specs.TypeNames.{all_typed, first_types, type_names, typed_by, use_in}
+use Rattle.ir_parse_names.specs.Types.{Types, entry_of, shape_if, with_type}
+use Rattle.ir_parse_parts.specs.Shapes as written
+use Rattle.ir_parse_parts.specs.Shapes.{Written, WrittenParts}
+use Rattle.ir_parse_parts.specs.declared.address.Level.{Level}
+use Rattle.ir_parse_parts.specs.declared.raw.Block.{Block}
+use Rattle.ir_parse_parts.specs.declared.raw.Init.{Init}
+use Rattle.ir_parse_parts.specs.declared.raw.InitHead.{InitHead}
+use Rattle.ir_parse_parts.specs.declared.raw.InitHead.TheVariants as heads
+use Rattle.ir_parse_parts.specs.declared.raw.InitPart.{InitPart}
+use Rattle.ir_parse_parts.specs.declared.raw.InitPart.TheVariants as parts
+use Rattle.ir_parse_parts.specs.declared.raw.Instr.{Instr}
+use Rattle.ir_parse_parts.specs.declared.raw.Instr.TheVariants as kind
+use Rattle.ir_parse_parts.specs.declared.raw.Item.{Item}
+use Rattle.ir_parse_parts.specs.declared.raw.Item.TheVariants as item
+use Rattle.ir_parse_parts.specs.declared.raw.Operand.{Operand}
+use Rattle.ir_parse_parts.specs.declared.raw.Operand.TheVariants as operands
+use Rattle.ir_parse_parts.specs.declared.raw.Terminator.{Terminator}
+use Rattle.ir_parse_parts.specs.declared.raw.Terminator.TheVariants as end
+use Rattle.ir_parse_parts.specs.declared.raw.Variable.{Variable}
+use Rattle.ir_parse_parts.specs.declared.shape.Typed.{Typed}
 use Rattle.ir_parse.specs.Written.{TypeWritten}
 use Rattle.ir_parse.specs.Items.{ItemWritten}
 use Rattle.ir_parse.specs.Spelled.{TypesAreWritten}

@@ -3,10 +3,10 @@ use Rattle.std.proofs.Common.{◌≡◌, ℕ, suc, ◌+◌, Bool, true, false, L
 use Rattle.std.specs.Prelude.{slice_get}
 use Rattle.std.specs.List.{position_or_len}
 use Rattle.ir_lex.specs.Tok.{Tok}
-use Rattle.ir_names.specs.declared.locals.Sort.{Sort}
-use Rattle.ir_names.specs.declared.locals.Sort.TheVariants.{Value, Block}
-use Rattle.ir_names.specs.Keys.{Key, key_of, same_key}
-use Rattle.ir_names.specs.Locals.{LocalTable, is_used_as, number_in, same_sort, sort_of, unknown}
+use Rattle.ir_parse_names.specs.declared.locals.Sort.{Sort}
+use Rattle.ir_parse_names.specs.declared.locals.Sort.TheVariants.{Value, Block}
+use Rattle.ir_parse_names.specs.Keys.{Key, key_of, same_key}
+use Rattle.ir_parse_names.specs.Locals.{LocalTable, is_used_as, number_in, same_sort, sort_of, unknown}
 use Rattle.ir_parse.proofs.Gives.{Gives, gives, fails}
 use Rattle.ir_parse.proofs.Numbering.{sorts_of}
 

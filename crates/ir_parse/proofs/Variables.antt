@@ -1,13 +1,13 @@
 -- Variables and type definitions that the grammar spells.
 use Rattle.std.proofs.Common.{◌≡◌, ℕ, Bool, true, false, Option, Some, None, refl}
-use Rattle.ir_globals.specs.Initialisers.{scalar_of}
-use Rattle.ir_globals.specs.TypeDefinitions.{defined, type_line}
-use Rattle.ir_globals.specs.Variables.{aligned, behind_kind, further, in_comdat, is_declared, marked, tail, value, variable_line, variable_name, with_align}
+use Rattle.ir_parse_globals.specs.Initialisers.{scalar_of}
+use Rattle.ir_parse_globals.specs.TypeDefinitions.{defined, type_line}
+use Rattle.ir_parse_globals.specs.Variables.{aligned, behind_kind, further, in_comdat, is_declared, marked, tail, value, variable_line, variable_name, with_align}
 use Rattle.ir_lex.specs.Tok.{Tok}
-use Rattle.ir_names.specs.Types.{shape_if}
-use Rattle.ir_heads.specs.FunctionHeads.{with_linkage}
-use Rattle.ir_operands.specs.ShapeForms.{memory_shape}
-use Rattle.ir_read.specs.declared.raw.Init.{Init}
+use Rattle.ir_parse_names.specs.Types.{shape_if}
+use Rattle.ir_parse_heads.specs.FunctionHeads.{with_linkage}
+use Rattle.ir_parse_operands.specs.ShapeForms.{memory_shape}
+use Rattle.ir_parse_parts.specs.declared.raw.Init.{Init}
 use Rattle.ir_tree.specs.Formed.{IsResult}
 use Rattle.ir_tree.specs.declared.function.Linkage.{Linkage}
 use Rattle.ir_tree.specs.declared.function.Linkage.TheVariants as linkages

@@ -1,6 +1,6 @@
 -- Shapes, operands and arguments, from their tokens.
 use Rattle.std.proofs.lemmas.List.Elements.{recursion_from_All}
-use Rattle.ir_operands.specs.ShapeForms.{memory_shape}
+use Rattle.ir_parse_operands.specs.ShapeForms.{memory_shape}
 use Rattle.ir_parse.specs.Spelled.{ArgumentsAreWritten, OperandsAreWritten, ShapesAreWritten}
 use Rattle.ir_parse.specs.Sized.{IsSized}
 use Rattle.ir_parse.proofs.Operands.{argument_written, operand_written}

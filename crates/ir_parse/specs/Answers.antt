@@ -1,8 +1,8 @@
 -- What reading answers.
 use Rattle.std.specs.Prelude.{◌≡◌, ℕ, Bool, List, [], ◌∷◌, Result, Ok, Err}
 use Rattle.ir_lex.specs.Tok.{Tok}
-use Rattle.ir_read.specs.declared.fault.TokenFault.{TokenFault}
-use Rattle.ir_names.specs.declared.fault.Fault as names
+use Rattle.ir_parse_parts.specs.declared.fault.TokenFault.{TokenFault}
+use Rattle.ir_parse_names.specs.declared.fault.Fault as names
 use Rattle.ir_tree.specs.declared.module.Module.{Module}
 use Rattle.ir_tree.specs.declared.fault_kind.FaultKind.{FaultKind}
 use Rattle.ir_tree.specs.declared.failure.Failure.{Failure}

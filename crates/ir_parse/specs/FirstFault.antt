@@ -1,11 +1,11 @@
 -- The first fault of bytes that are read as no module.
 use Rattle.std.specs.Prelude.{◌≡◌, ◌⊎◌, ℕ, Bool, true, false, List, [], ◌∷◌, ◌++◌, Err}
-use Rattle.ir_read.specs.Faults.{Extends, Viable}
+use Rattle.ir_parse_parts.specs.Faults.{Extends, Viable}
 use Rattle.ir_lex.specs.Lexing.{AreTokens, IsLexed}
 use Rattle.ir_lex.specs.Tok.{Tok}
-use Rattle.ir_names.specs.declared.fault.Fault as names
-use Rattle.ir_read.specs.Classes.{tokens}
-use Rattle.ir_read.specs.declared.raw.Item.{Item}
+use Rattle.ir_parse_names.specs.declared.fault.Fault as names
+use Rattle.ir_parse_parts.specs.Classes.{tokens}
+use Rattle.ir_parse_parts.specs.declared.raw.Item.{Item}
 use Rattle.ir_parse.specs.Modules.{whole_module}
 use Rattle.ir_tree.specs.declared.fault_kind.FaultKind.{FaultKind}
 use Rattle.ir_tree.specs.declared.fault_kind.FaultKind.TheVariants as kinds

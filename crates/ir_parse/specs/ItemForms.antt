@@ -7,26 +7,26 @@ use Rattle.std.specs.List.{fold}
 use Rattle.ir_lex.specs.declared.token_kind.TokenKind.TheVariants as kinds
 use Rattle.ir_lex.specs.TokenKinds.{number}
 use Rattle.ir_lex.specs.Tok.{Tok}
-use Rattle.ir_read.specs.Chained.{Chain}
-use Rattle.ir_read.specs.Forms.{Form, ◌>>=◌, either, gives, Star}
-use Rattle.ir_bodies.specs.Blocks.{definition, any_definition}
-use Rattle.ir_globals.specs.TypeDefinitions.{type_line}
-use Rattle.ir_globals.specs.Variables.{variable_name, any_variable_name, variable_line}
-use Rattle.ir_heads.specs.Attributes.{head_attribute, attribute_group}
-use Rattle.ir_read.specs.Classes.{the}
-use Rattle.ir_heads.specs.FunctionHeads.{head, any_head}
-use Rattle.ir_read.specs.Metadata.{attached, metadata_line}
-use Rattle.ir_read.specs.MetadataBehind.{metadata_behind, node_yet}
-use Rattle.ir_heads.specs.Targets.{target_line, source_line, comdat_line}
-use Rattle.ir_heads.specs.declared.function_heads.Role.TheVariants as roles
-use Rattle.ir_read.specs.declared.places.Before.{Before}
-use Rattle.ir_read.specs.declared.places.Before.TheVariants as befores
-use Rattle.ir_read.specs.declared.places.Position.{Position}
-use Rattle.ir_read.specs.declared.raw.FunctionHeader.{FunctionHeader}
-use Rattle.ir_read.specs.declared.raw.Item.{Item}
-use Rattle.ir_read.specs.declared.raw.Item.TheVariants.{Declaration}
-use Rattle.ir_read.specs.declared.shape.Typed.{Typed}
-use Rattle.ir_operands.specs.ShapeForms.{any_shape, memory_shape}
+use Rattle.ir_parse_parts.specs.Chained.{Chain}
+use Rattle.ir_parse_parts.specs.Forms.{Form, ◌>>=◌, either, gives, Star}
+use Rattle.ir_parse_bodies.specs.Blocks.{definition, any_definition}
+use Rattle.ir_parse_globals.specs.TypeDefinitions.{type_line}
+use Rattle.ir_parse_globals.specs.Variables.{variable_name, any_variable_name, variable_line}
+use Rattle.ir_parse_heads.specs.Attributes.{head_attribute, attribute_group}
+use Rattle.ir_parse_parts.specs.Classes.{the}
+use Rattle.ir_parse_heads.specs.FunctionHeads.{head, any_head}
+use Rattle.ir_parse_parts.specs.Metadata.{attached, metadata_line}
+use Rattle.ir_parse_parts.specs.MetadataBehind.{metadata_behind, node_yet}
+use Rattle.ir_parse_heads.specs.Targets.{target_line, source_line, comdat_line}
+use Rattle.ir_parse_heads.specs.declared.function_heads.Role.TheVariants as roles
+use Rattle.ir_parse_parts.specs.declared.places.Before.{Before}
+use Rattle.ir_parse_parts.specs.declared.places.Before.TheVariants as befores
+use Rattle.ir_parse_parts.specs.declared.places.Position.{Position}
+use Rattle.ir_parse_parts.specs.declared.raw.FunctionHeader.{FunctionHeader}
+use Rattle.ir_parse_parts.specs.declared.raw.Item.{Item}
+use Rattle.ir_parse_parts.specs.declared.raw.Item.TheVariants.{Declaration}
+use Rattle.ir_parse_parts.specs.declared.shape.Typed.{Typed}
+use Rattle.ir_parse_operands.specs.ShapeForms.{any_shape, memory_shape}
 
 -- an item, where it is kept, and what stands before the next one
 abbrev pub ParsedItem : Type 0

@@ -4,28 +4,28 @@ use Rattle.std.specs.List.{fold}
 use Rattle.ir_lex.specs.declared.token_kind.TokenKind.TheVariants as kinds
 use Rattle.ir_lex.specs.TokenKinds.{number}
 use Rattle.ir_lex.specs.Tok.{Tok}
-use Rattle.ir_read.specs.Alphabet.{among}
-use Rattle.ir_read.specs.Chained.{chain_at}
-use Rattle.ir_read.specs.declared.fault.TokenFault.TheVariants.{Limit}
-use Rattle.ir_read.specs.Readers.{Reader, ◌>>=◌, done, fault_at, pick, star_at}
-use Rattle.ir_bodies.specs.BlocksAt.{DEFINE, definition_at}
-use Rattle.ir_globals.specs.TypeDefinitionsAt.{type_line_at}
-use Rattle.ir_globals.specs.Variables.{NAMES}
-use Rattle.ir_globals.specs.VariablesAt.{variable_line_at}
-use Rattle.ir_heads.specs.AttributesAt.{HEAD, head_attribute_at, attribute_group_at}
-use Rattle.ir_read.specs.Classes.{tokens, the_at}
-use Rattle.ir_heads.specs.FunctionHeadsAt.{head_at}
+use Rattle.ir_parse_parts.specs.Alphabet.{among}
+use Rattle.ir_parse_parts.specs.Chained.{chain_at}
+use Rattle.ir_parse_parts.specs.declared.fault.TokenFault.TheVariants.{Limit}
+use Rattle.ir_parse_parts.specs.Readers.{Reader, ◌>>=◌, done, fault_at, pick, star_at}
+use Rattle.ir_parse_bodies.specs.BlocksAt.{DEFINE, definition_at}
+use Rattle.ir_parse_globals.specs.TypeDefinitionsAt.{type_line_at}
+use Rattle.ir_parse_globals.specs.Variables.{NAMES}
+use Rattle.ir_parse_globals.specs.VariablesAt.{variable_line_at}
+use Rattle.ir_parse_heads.specs.AttributesAt.{HEAD, head_attribute_at, attribute_group_at}
+use Rattle.ir_parse_parts.specs.Classes.{tokens, the_at}
+use Rattle.ir_parse_heads.specs.FunctionHeadsAt.{head_at}
 use Rattle.ir_parse.specs.ItemForms.{ParsedItem, declared, at_place, anywhere, keep}
-use Rattle.ir_read.specs.Metadata.{META}
-use Rattle.ir_read.specs.MetadataAt.{attached_at, metadata_line_at}
-use Rattle.ir_read.specs.MetadataBehindAt.{metadata_behind_at, node_yet_at}
-use Rattle.ir_read.specs.Operands.{LOCAL}
-use Rattle.ir_heads.specs.TargetsAt.{target_line_at, source_line_at, comdat_line_at}
-use Rattle.ir_heads.specs.declared.function_heads.Role.TheVariants as roles
-use Rattle.ir_read.specs.declared.places.Before.{Before}
-use Rattle.ir_read.specs.declared.places.Before.TheVariants as befores
-use Rattle.ir_read.specs.declared.places.Position.{Position}
-use Rattle.ir_read.specs.declared.raw.Item.{Item}
+use Rattle.ir_parse_parts.specs.Metadata.{META}
+use Rattle.ir_parse_parts.specs.MetadataAt.{attached_at, metadata_line_at}
+use Rattle.ir_parse_parts.specs.MetadataBehindAt.{metadata_behind_at, node_yet_at}
+use Rattle.ir_parse_parts.specs.Operands.{LOCAL}
+use Rattle.ir_parse_heads.specs.TargetsAt.{target_line_at, source_line_at, comdat_line_at}
+use Rattle.ir_parse_heads.specs.declared.function_heads.Role.TheVariants as roles
+use Rattle.ir_parse_parts.specs.declared.places.Before.{Before}
+use Rattle.ir_parse_parts.specs.declared.places.Before.TheVariants as befores
+use Rattle.ir_parse_parts.specs.declared.places.Position.{Position}
+use Rattle.ir_parse_parts.specs.declared.raw.Item.{Item}
 
 -- what items begin with
 abbrev pub SOURCE : List ℕ

@@ -1,13 +1,13 @@
 -- What the grammar makes of the items of a module.
 use Rattle.std.specs.Prelude.{◌≡◌, Bool, false, [], Option, Some, None}
 use Rattle.std.specs.List.{AllByRecursion as Each}
-use Rattle.ir_read.specs.declared.raw.FunctionHeader.{FunctionHeader}
-use Rattle.ir_read.specs.declared.raw.Init.{Init}
-use Rattle.ir_read.specs.declared.raw.InitPart.{InitPart}
-use Rattle.ir_read.specs.declared.raw.InitPart.TheVariants as parts
-use Rattle.ir_read.specs.declared.raw.Item.{Item}
-use Rattle.ir_read.specs.declared.raw.Item.TheVariants as item
-use Rattle.ir_names.specs.Types.{shape_if}
+use Rattle.ir_parse_parts.specs.declared.raw.FunctionHeader.{FunctionHeader}
+use Rattle.ir_parse_parts.specs.declared.raw.Init.{Init}
+use Rattle.ir_parse_parts.specs.declared.raw.InitPart.{InitPart}
+use Rattle.ir_parse_parts.specs.declared.raw.InitPart.TheVariants as parts
+use Rattle.ir_parse_parts.specs.declared.raw.Item.{Item}
+use Rattle.ir_parse_parts.specs.declared.raw.Item.TheVariants as item
+use Rattle.ir_parse_names.specs.Types.{shape_if}
 use Rattle.ir_parse.specs.Written.{IsWritten, ShapeWritten, TypeWritten, VariableWritten}
 
 -- no attribute of a declaration is kept

@@ -1,13 +1,13 @@
 -- The kind of a fault, by the stage that finds it.
 use Rattle.std.specs.Prelude.{if◌then◌else◌}
 use Rattle.ir_lex.specs.Tok.{Tok}
-use Rattle.ir_read.specs.Alphabet.{among}
-use Rattle.ir_read.specs.declared.fault.TokenFault.{TokenFault}
-use Rattle.ir_read.specs.declared.fault.TokenFault.TheVariants as refusal
-use Rattle.ir_names.specs.declared.fault.NameFault.{NameFault}
-use Rattle.ir_names.specs.declared.fault.NameFault.TheVariants as broken
-use Rattle.ir_read.specs.Classes.{tokens}
-use Rattle.ir_heads.specs.Targets.{STRING}
+use Rattle.ir_parse_parts.specs.Alphabet.{among}
+use Rattle.ir_parse_parts.specs.declared.fault.TokenFault.{TokenFault}
+use Rattle.ir_parse_parts.specs.declared.fault.TokenFault.TheVariants as refusal
+use Rattle.ir_parse_names.specs.declared.fault.NameFault.{NameFault}
+use Rattle.ir_parse_names.specs.declared.fault.NameFault.TheVariants as broken
+use Rattle.ir_parse_parts.specs.Classes.{tokens}
+use Rattle.ir_parse_heads.specs.Targets.{STRING}
 use Rattle.ir_tree.specs.declared.fault_kind.FaultKind.{FaultKind}
 use Rattle.ir_tree.specs.declared.fault_kind.FaultKind.TheVariants as kinds
 

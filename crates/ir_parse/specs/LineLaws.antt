@@ -1,10 +1,10 @@
 -- Lines and what stands on them.
 use Rattle.std.specs.Prelude.{◌≡◌, Bool, List, length, flat_map, IfOk}
-use Rattle.ir_read.specs.declared.raw.Block as raw_block
-use Rattle.ir_read.specs.declared.raw.FunctionHeader as raw_head
+use Rattle.ir_parse_parts.specs.declared.raw.Block as raw_block
+use Rattle.ir_parse_parts.specs.declared.raw.FunctionHeader as raw_head
 use Rattle.ir_tree.specs.Items.{items}
-use Rattle.named_values.specs.Blocks.{function_in}
-use Rattle.ir_names.specs.Types.{Types}
+use Rattle.ir_parse_values.specs.Blocks.{function_in}
+use Rattle.ir_parse_names.specs.Types.{Types}
 use Rattle.ir_parse.specs.Lines.{block_lines}
 
 -- a function has a line for each phi, instruction and terminator

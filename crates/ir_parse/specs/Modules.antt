@@ -3,12 +3,12 @@ use Rattle.std.specs.Prelude.{ℕ, Result, List, length, drop, ◌-◌}
 use Rattle.ir_lex.specs.declared.token.Token.{Token}
 use Rattle.ir_lex.specs.TokenKinds.{number}
 use Rattle.ir_lex.specs.Tok.{Tok, toks}
-use Rattle.ir_read.specs.declared.fault.Fault.{Fault}
-use Rattle.ir_read.specs.declared.fault.TokenFault.{TokenFault}
-use Rattle.ir_read.specs.Forms.{Form}
-use Rattle.ir_read.specs.Readers.{whole_of}
-use Rattle.ir_heads.specs.FunctionHeads.{name_refusal}
-use Rattle.ir_read.specs.declared.raw.Item.{Item}
+use Rattle.ir_parse_parts.specs.declared.fault.Fault.{Fault}
+use Rattle.ir_parse_parts.specs.declared.fault.TokenFault.{TokenFault}
+use Rattle.ir_parse_parts.specs.Forms.{Form}
+use Rattle.ir_parse_parts.specs.Readers.{whole_of}
+use Rattle.ir_parse_heads.specs.FunctionHeads.{name_refusal}
+use Rattle.ir_parse_parts.specs.declared.raw.Item.{Item}
 use Rattle.ir_parse.specs.ItemForms.{items, any_items}
 use Rattle.ir_parse.specs.ItemFormsAt.{items_at}
 

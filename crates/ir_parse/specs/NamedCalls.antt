@@ -3,17 +3,17 @@
 use Rattle.std.specs.Prelude.{ℕ}
 use Rattle.ir_lex.specs.Tok.{Tok}
 use Rattle.ir_lex.specs.declared.token_kind.TokenKind.TheVariants as kinds
-use Rattle.ir_read.specs.Chained.{Chain}
-use Rattle.ir_read.specs.Forms.{Form, ◌>>=◌, gives, optional, Star}
-use Rattle.ir_instructions.specs.Addressing.{any_slots}
-use Rattle.ir_heads.specs.Attributes.{definition_attributes}
-use Rattle.ir_read.specs.Classes.{the}
-use Rattle.ir_heads.specs.FunctionHeads.{any_head}
-use Rattle.ir_operands.specs.ShapeForms.{any_shape}
-use Rattle.ir_heads.specs.declared.function_heads.Role.TheVariants as roles
-use Rattle.ir_bodies.specs.Blocks.{INSTRUCTIONS, any_block, any_label, any_local, at_will}
-use Rattle.ir_bodies.specs.Calls.{conventions, types}
-use Rattle.ir_bodies.specs.Lines.{line}
+use Rattle.ir_parse_parts.specs.Chained.{Chain}
+use Rattle.ir_parse_parts.specs.Forms.{Form, ◌>>=◌, gives, optional, Star}
+use Rattle.ir_parse_instructions.specs.Addressing.{any_slots}
+use Rattle.ir_parse_heads.specs.Attributes.{definition_attributes}
+use Rattle.ir_parse_parts.specs.Classes.{the}
+use Rattle.ir_parse_heads.specs.FunctionHeads.{any_head}
+use Rattle.ir_parse_operands.specs.ShapeForms.{any_shape}
+use Rattle.ir_parse_heads.specs.declared.function_heads.Role.TheVariants as roles
+use Rattle.ir_parse_bodies.specs.Blocks.{INSTRUCTIONS, any_block, any_label, any_local, at_will}
+use Rattle.ir_parse_bodies.specs.Calls.{conventions, types}
+use Rattle.ir_parse_bodies.specs.Lines.{line}
 use Rattle.ir_parse.specs.ItemForms.{any_items}
 use Rattle.ir_parse.specs.Modules.{GLOBAL_NAMES}
 

@@ -2,7 +2,7 @@
 use Rattle.std.specs.Prelude.{◌≡◌, ℕ, List, Ok}
 use Rattle.ir_lex.specs.Lexing.{AreTokens}
 use Rattle.ir_lex.specs.Tok.{Tok}
-use Rattle.ir_read.specs.declared.raw.Item.{Item}
+use Rattle.ir_parse_parts.specs.declared.raw.Item.{Item}
 use Rattle.ir_tree.specs.declared.module.Module.{Module}
 use Rattle.ir_parse.specs.Modules.{whole_module}
 use Rattle.ir_parse.specs.Lines.{lines_of}

@@ -3,13 +3,13 @@ use Rattle.std.specs.Prelude.{◌≡◌, ℕ, nat_eq, Bool, true, false, List, [
 use Rattle.ir_lex.specs.TokenKinds.{number}
 use Rattle.ir_lex.specs.Tok.{Tok}
 use Rattle.ir_lex.specs.declared.token_kind.TokenKind.TheVariants as kinds
-use Rattle.ir_read.specs.Alphabet.{among, is_literal, is_number}
-use Rattle.ir_read.specs.Faults.{Extends, Viable}
-use Rattle.ir_read.specs.Classes.{IsReal, tokens}
-use Rattle.ir_heads.specs.FunctionHeads.{GLOBAL, NUMBERED}
-use Rattle.ir_read.specs.Operands.{REG}
-use Rattle.ir_heads.specs.Targets.{STRING}
-use Rattle.ir_operands.specs.ShapeForms.{OPEN_ANGLE, OPEN_BRACE}
+use Rattle.ir_parse_parts.specs.Alphabet.{among, is_literal, is_number}
+use Rattle.ir_parse_parts.specs.Faults.{Extends, Viable}
+use Rattle.ir_parse_parts.specs.Classes.{IsReal, tokens}
+use Rattle.ir_parse_heads.specs.FunctionHeads.{GLOBAL, NUMBERED}
+use Rattle.ir_parse_parts.specs.Operands.{REG}
+use Rattle.ir_parse_heads.specs.Targets.{STRING}
+use Rattle.ir_parse_operands.specs.ShapeForms.{OPEN_ANGLE, OPEN_BRACE}
 use Rattle.ir_parse.specs.Modules.{any_module, whole_module}
 use Rattle.ir_parse.specs.NamedCalls.{in_module}
 use Rattle.ir_tree.specs.declared.fault_kind.FaultKind.{FaultKind}

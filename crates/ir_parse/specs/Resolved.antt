@@ -1,18 +1,18 @@
 -- What holds of functions and variables with their names resolved.
 use Rattle.std.specs.Prelude.{◌≡◌, Bool, false, List, [], ◌++◌, Ok}
-use Rattle.ir_read.specs.declared.raw.Block.{Block}
-use Rattle.ir_read.specs.declared.raw.FunctionHeader.{FunctionHeader}
-use Rattle.ir_read.specs.declared.raw.Variable as raw
-use Rattle.ir_read.specs.declared.shape.Typed.{Typed}
+use Rattle.ir_parse_parts.specs.declared.raw.Block.{Block}
+use Rattle.ir_parse_parts.specs.declared.raw.FunctionHeader.{FunctionHeader}
+use Rattle.ir_parse_parts.specs.declared.raw.Variable as raw
+use Rattle.ir_parse_parts.specs.declared.shape.Typed.{Typed}
 use Rattle.ir_tree.specs.Flow.{locals}
 use Rattle.ir_tree.specs.Formed.{Distinct, Formed, IsShape, numbers}
 use Rattle.ir_tree.specs.Forms.{Form}
 use Rattle.ir_tree.specs.declared.function.Function.{Function}
 use Rattle.ir_tree.specs.declared.function.Variable.{Variable}
 use Rattle.ir_tree.specs.Wholes.{VariableFormed}
-use Rattle.named_values.specs.Blocks.{function_in}
-use Rattle.ir_names.specs.Types.{Types, expanded}
-use Rattle.ir_names.specs.Variables.{variable_in}
+use Rattle.ir_parse_values.specs.Blocks.{function_in}
+use Rattle.ir_parse_names.specs.Types.{Types, expanded}
+use Rattle.ir_parse_names.specs.Variables.{variable_in}
 use Rattle.ir_parse.specs.Worked.{worked, worked_blocks, worked_head}
 use Rattle.ir_parse.specs.Written.{IsWritten, ShapeWritten, TypesWritten, VariableWritten}
 

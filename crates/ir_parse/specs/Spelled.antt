@@ -3,15 +3,15 @@ use Rattle.std.specs.Prelude.{◌≡◌, ℕ, List, All, Ok}
 use Rattle.ir_parse.specs.Modules.{whole_module}
 use Rattle.ir_lex.specs.Lexing.{AreTokens, Stands}
 use Rattle.ir_lex.specs.Tok.{Tok}
-use Rattle.ir_names.specs.Marks.{marks_of}
-use Rattle.ir_names.specs.TypeNames.{type_names}
-use Rattle.ir_names.specs.Types.{Types}
-use Rattle.ir_operands.specs.ShapeForms.{memory_shape}
-use Rattle.ir_operands.specs.Values.{argument, operand}
-use Rattle.ir_read.specs.declared.raw.Argument.{Argument}
-use Rattle.ir_read.specs.declared.raw.Item.{Item}
-use Rattle.ir_read.specs.declared.raw.Operand.{Operand}
-use Rattle.ir_read.specs.declared.shape.Typed.{Typed}
+use Rattle.ir_parse_names.specs.Marks.{marks_of}
+use Rattle.ir_parse_names.specs.TypeNames.{type_names}
+use Rattle.ir_parse_names.specs.Types.{Types}
+use Rattle.ir_parse_operands.specs.ShapeForms.{memory_shape}
+use Rattle.ir_parse_operands.specs.Values.{argument, operand}
+use Rattle.ir_parse_parts.specs.declared.raw.Argument.{Argument}
+use Rattle.ir_parse_parts.specs.declared.raw.Item.{Item}
+use Rattle.ir_parse_parts.specs.declared.raw.Operand.{Operand}
+use Rattle.ir_parse_parts.specs.declared.shape.Typed.{Typed}
 use Rattle.ir_tree.specs.Formed.{IsReg}
 use Rattle.ir_tree.specs.declared.operand.Reg.{Reg}
 use Rattle.ir_parse.specs.Written.{ArgumentWritten, OperandWritten, ShapeWritten, TypesWritten}

@@ -1,14 +1,14 @@
 -- The module that items stand for, or the first fault of the stages behind the grammar.
 use Rattle.std.specs.Prelude.{List, Result, Ok}
-use Rattle.ir_read.specs.declared.raw.Item.{Item}
+use Rattle.ir_parse_parts.specs.declared.raw.Item.{Item}
 use Rattle.ir_tree.specs.declared.module.Module.{Module}
-use Rattle.ir_names.specs.declared.fault.Fault.{Fault}
-use Rattle.ir_names.specs.Groups.{groups_of}
-use Rattle.ir_names.specs.Marks.{marks_of}
-use Rattle.ir_names.specs.Resolving.{◌>>=◌}
-use Rattle.ir_names.specs.Stages.{marks_within, globals_named}
-use Rattle.ir_names.specs.TypeNames.{type_names}
-use Rattle.ir_names.specs.Types.{Types}
+use Rattle.ir_parse_names.specs.declared.fault.Fault.{Fault}
+use Rattle.ir_parse_names.specs.Groups.{groups_of}
+use Rattle.ir_parse_names.specs.Marks.{marks_of}
+use Rattle.ir_parse_names.specs.Resolving.{◌>>=◌}
+use Rattle.ir_parse_names.specs.Stages.{marks_within, globals_named}
+use Rattle.ir_parse_names.specs.TypeNames.{type_names}
+use Rattle.ir_parse_names.specs.Types.{Types}
 use Rattle.ir_parse.specs.Targets.{datalayout_of, triple_of}
 use Rattle.ir_parse.specs.Values.{values_in}
 

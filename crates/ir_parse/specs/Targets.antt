@@ -2,8 +2,8 @@
 use Rattle.std.specs.Prelude.{ℕ, List, [], ◌∷◌, filter_map, Option, None, Some}
 use Rattle.ir_lex.specs.Quotes.{content}
 use Rattle.ir_lex.specs.Tok.{Tok}
-use Rattle.ir_read.specs.declared.raw.Item.{Item}
-use Rattle.ir_read.specs.declared.raw.Item.TheVariants as item
+use Rattle.ir_parse_parts.specs.declared.raw.Item.{Item}
+use Rattle.ir_parse_parts.specs.declared.raw.Item.TheVariants as item
 
 -- the string of an item that names the data layout, or the triple
 abbrev pub layout_string : Item → Option Tok

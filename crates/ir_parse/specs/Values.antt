@@ -1,17 +1,17 @@
 -- The global values of a module, one for each variable, declaration and definition, in the order of the text (LangRef, "Global
 -- Variables" and "Functions").
 use Rattle.std.specs.Prelude.{false, List, [], ◌∷◌, Option, None, Some, Result, Ok}
-use Rattle.ir_read.specs.declared.raw.Item.{Item}
-use Rattle.ir_read.specs.declared.raw.Item.TheVariants as item
+use Rattle.ir_parse_parts.specs.declared.raw.Item.{Item}
+use Rattle.ir_parse_parts.specs.declared.raw.Item.TheVariants as item
 use Rattle.ir_tree.specs.declared.module.GlobalValue.{GlobalValue}
 use Rattle.ir_tree.specs.declared.module.GlobalValue.TheVariants as global
-use Rattle.ir_names.specs.declared.fault.Fault.{Fault}
-use Rattle.ir_names.specs.declared.groups.Groups.{Groups}
-use Rattle.named_values.specs.Blocks.{function_in}
-use Rattle.ir_names.specs.Groups.{is_noinline, is_optnone}
-use Rattle.ir_names.specs.Resolving.{◌>>=◌}
-use Rattle.ir_names.specs.Types.{Types}
-use Rattle.ir_names.specs.Variables.{variable_in}
+use Rattle.ir_parse_names.specs.declared.fault.Fault.{Fault}
+use Rattle.ir_parse_names.specs.declared.groups.Groups.{Groups}
+use Rattle.ir_parse_values.specs.Blocks.{function_in}
+use Rattle.ir_parse_names.specs.Groups.{is_noinline, is_optnone}
+use Rattle.ir_parse_names.specs.Resolving.{◌>>=◌}
+use Rattle.ir_parse_names.specs.Types.{Types}
+use Rattle.ir_parse_names.specs.Variables.{variable_in}
 
 -- the global value that an item is, where it is one. A definition is `noinline` or `optnone` where its head or one of its groups says
 -- so; a declaration keeps no attribute

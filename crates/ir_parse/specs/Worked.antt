@@ -17,13 +17,13 @@ use Rattle.ir_lex.specs.declared.token_kind.TokenKind.{TokenKind}
 use Rattle.ir_lex.specs.declared.token_kind.TokenKind.TheVariants as classes
 use Rattle.ir_lex.specs.declared.token.TokenForm.{TokenForm}
 use Rattle.ir_lex.specs.declared.token.TokenForm.TheVariants as forms
-use Rattle.ir_read.specs.Shapes as written
-use Rattle.ir_read.specs.declared.raw.Block as raw_block
-use Rattle.ir_read.specs.declared.raw.FunctionHeader as raw_head
-use Rattle.ir_read.specs.declared.raw.Incoming.{Incoming}
-use Rattle.ir_read.specs.declared.raw.Instr.TheVariants as raw_kind
-use Rattle.ir_read.specs.declared.raw.Operand.TheVariants as raw_operand
-use Rattle.ir_read.specs.declared.raw.Terminator.TheVariants as raw_end
+use Rattle.ir_parse_parts.specs.Shapes as written
+use Rattle.ir_parse_parts.specs.declared.raw.Block as raw_block
+use Rattle.ir_parse_parts.specs.declared.raw.FunctionHeader as raw_head
+use Rattle.ir_parse_parts.specs.declared.raw.Incoming.{Incoming}
+use Rattle.ir_parse_parts.specs.declared.raw.Instr.TheVariants as raw_kind
+use Rattle.ir_parse_parts.specs.declared.raw.Operand.TheVariants as raw_operand
+use Rattle.ir_parse_parts.specs.declared.raw.Terminator.TheVariants as raw_end
 use Rattle.ir_tree.specs.Forms.{array, int}
 use Rattle.ir_tree.specs.declared.block.Terminator.TheVariants.{Jump, Return}
 use Rattle.ir_tree.specs.declared.function.Function.{Function}

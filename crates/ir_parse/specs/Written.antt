@@ -2,27 +2,27 @@
 -- "Instruction Reference").
 use Rattle.std.specs.Prelude.{◌≡◌, ℕ, ◌<◌, ◌^◌, Bool, false, List, [], All, Option, Some, None}
 use Rattle.ir_lex.specs.Tok.{Tok}
-use Rattle.ir_read.specs.Shapes.{Written, WrittenParts, int, pointer, array, structure, named, no_parts, part}
-use Rattle.ir_read.specs.declared.raw.Argument.{Argument}
-use Rattle.ir_read.specs.declared.raw.Block.{Block}
-use Rattle.ir_read.specs.declared.raw.Case.{Case}
-use Rattle.ir_read.specs.declared.raw.FunctionHeader.{FunctionHeader}
-use Rattle.ir_read.specs.declared.raw.Init.{Init}
-use Rattle.ir_read.specs.declared.raw.InitHead.{InitHead}
-use Rattle.ir_read.specs.declared.raw.InitHead.TheVariants as heads
-use Rattle.ir_read.specs.declared.raw.InitPart.{InitPart}
-use Rattle.ir_read.specs.declared.raw.InitPart.TheVariants as init
-use Rattle.ir_read.specs.declared.raw.Instr.{Instr}
-use Rattle.ir_read.specs.declared.raw.Instr.TheVariants as kind
-use Rattle.ir_read.specs.declared.raw.WrittenLine.{WrittenLine}
-use Rattle.ir_read.specs.declared.raw.Operand.{Operand}
-use Rattle.ir_read.specs.declared.raw.Operand.TheVariants as operand
-use Rattle.ir_read.specs.declared.raw.Terminator.{Terminator}
-use Rattle.ir_read.specs.declared.raw.Terminator.TheVariants as end
-use Rattle.ir_read.specs.declared.raw.Variable.{Variable}
+use Rattle.ir_parse_parts.specs.Shapes.{Written, WrittenParts, int, pointer, array, structure, named, no_parts, part}
+use Rattle.ir_parse_parts.specs.declared.raw.Argument.{Argument}
+use Rattle.ir_parse_parts.specs.declared.raw.Block.{Block}
+use Rattle.ir_parse_parts.specs.declared.raw.Case.{Case}
+use Rattle.ir_parse_parts.specs.declared.raw.FunctionHeader.{FunctionHeader}
+use Rattle.ir_parse_parts.specs.declared.raw.Init.{Init}
+use Rattle.ir_parse_parts.specs.declared.raw.InitHead.{InitHead}
+use Rattle.ir_parse_parts.specs.declared.raw.InitHead.TheVariants as heads
+use Rattle.ir_parse_parts.specs.declared.raw.InitPart.{InitPart}
+use Rattle.ir_parse_parts.specs.declared.raw.InitPart.TheVariants as init
+use Rattle.ir_parse_parts.specs.declared.raw.Instr.{Instr}
+use Rattle.ir_parse_parts.specs.declared.raw.Instr.TheVariants as kind
+use Rattle.ir_parse_parts.specs.declared.raw.WrittenLine.{WrittenLine}
+use Rattle.ir_parse_parts.specs.declared.raw.Operand.{Operand}
+use Rattle.ir_parse_parts.specs.declared.raw.Operand.TheVariants as operand
+use Rattle.ir_parse_parts.specs.declared.raw.Terminator.{Terminator}
+use Rattle.ir_parse_parts.specs.declared.raw.Terminator.TheVariants as end
+use Rattle.ir_parse_parts.specs.declared.raw.Variable.{Variable}
 use Rattle.ir_tree.specs.Formed.{IsAlignment, IsReg, IsResult, IsScalar, IsStored, IsWidth, FlagsFormed}
 use Rattle.ir_tree.specs.declared.function.Linkage.TheVariants.{External}
-use Rattle.ir_names.specs.Types.{Types}
+use Rattle.ir_parse_names.specs.Types.{Types}
 
 -- ---- shapes and alignments
 

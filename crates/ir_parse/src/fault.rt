@@ -2,7 +2,7 @@
 ghost use Rattle.std.specs.Prelude.{◌≡◌};
 ghost use Rattle.ir_parse.specs.Kinds.{name_fault};
 
-use ir_names::NameFault;
+use ir_parse_names::NameFault;
 use ir_tree::{Failure, FaultKind};
 
 /// What is wrong, and the line of the token at which it is found, counted from 1; at the end of the text one more than its line

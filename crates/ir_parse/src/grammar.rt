@@ -1,7 +1,7 @@
 //! The items of a text that is in the grammar, or the first place at which no reading goes on.
 ghost use Rattle.std.specs.Prelude.{◌≡◌, ◌-◌, [], IfOk, IfErr, OnOk, true, drop, length};
 ghost use Rattle.ir_lex.specs.Tok.{tok, toks};
-ghost use Rattle.ir_read.specs.Readers.{Returns};
+ghost use Rattle.ir_parse_parts.specs.Readers.{Returns};
 ghost use Rattle.ir_parse.specs.Modules.{whole_module, module_of, last_tokens};
 ghost use Rattle.ir_tree.specs.Failures.{IfFault};
 ghost use Rattle.ir_parse.specs.Answers.{IsStopped};
@@ -10,9 +10,9 @@ ghost use Rattle.ir_parse.specs.Kinds.{refused_kind, grammar_fault};
 
 use crate::fault::{ReadError, ReadFault};
 use crate::items::items_into;
-use ir_heads::name_refusal;
 use ir_lex::{Lexed, Token, TokenKind};
-use ir_read::{Fault as Refusal, Item, ReaderError, TokenFault, Tokens};
+use ir_parse_heads::name_refusal;
+use ir_parse_parts::{Fault as Refusal, Item, ReaderError, TokenFault, Tokens};
 use ir_tree::{FaultKind, Text};
 use std::alloc::{AllocError, Global};
 

@@ -2,29 +2,29 @@
 
 ghost use Rattle.std.specs.Prelude.{◌≡◌, ◌∷◌, ◌++◌, [], OnOk, IfErr, None};
 ghost use Rattle.ir_lex.specs.TokenKinds.{number};
-ghost use Rattle.ir_read.specs.Alphabet.{contains, among};
+ghost use Rattle.ir_parse_parts.specs.Alphabet.{contains, among};
 ghost use Rattle.ir_tree.specs.declared.failure.Failure.TheVariants.{NoMemory};
-ghost use Rattle.ir_read.specs.Readers.{Returns, next_is};
-ghost use Rattle.ir_heads.specs.AttributesAt.{HEAD, attribute_group_at};
-ghost use Rattle.ir_heads.specs.TargetsAt.{layout_line_at, target_line_at, triple_line_at};
-ghost use Rattle.ir_read.specs.Classes.{tokens};
-ghost use Rattle.ir_bodies.specs.BlocksAt.{definition_at};
-ghost use Rattle.ir_globals.specs.TypeDefinitionsAt.{type_line_at};
-ghost use Rattle.ir_globals.specs.Variables.{NAMES};
-ghost use Rattle.ir_globals.specs.VariablesAt.{variable_line_at};
+ghost use Rattle.ir_parse_parts.specs.Readers.{Returns, next_is};
+ghost use Rattle.ir_parse_heads.specs.AttributesAt.{HEAD, attribute_group_at};
+ghost use Rattle.ir_parse_heads.specs.TargetsAt.{layout_line_at, target_line_at, triple_line_at};
+ghost use Rattle.ir_parse_parts.specs.Classes.{tokens};
+ghost use Rattle.ir_parse_bodies.specs.BlocksAt.{definition_at};
+ghost use Rattle.ir_parse_globals.specs.TypeDefinitionsAt.{type_line_at};
+ghost use Rattle.ir_parse_globals.specs.Variables.{NAMES};
+ghost use Rattle.ir_parse_globals.specs.VariablesAt.{variable_line_at};
 ghost use Rattle.ir_parse.specs.ItemForms.{declared, keep};
 ghost use Rattle.ir_parse.specs.ItemFormsAt.{ITEM, NAMING, beginnings, kept_at, unnamed_at, attribute_behind_at, metadata_there_at, plainly_at, beside_at, attached_before_at, declaration_at, naming_at, named_within_at, there_at, items_at};
 ghost use Rattle.ir_parse.specs.Putting.{behind_at};
 
-use ir_globals::{
+use ir_lex::TokenKind;
+use ir_parse_globals::{
     attribute_group_into, layout_line_into, triple_line_into, type_line_into, variable_line_into,
 };
-use ir_heads::{
+use ir_parse_heads::{
     Role, comdat_line_at, head_at, head_attribute_at, is_attribute_word, source_line_at,
 };
-use ir_lex::TokenKind;
-use ir_operands::push;
-use ir_read::{
+use ir_parse_operands::push;
+use ir_parse_parts::{
     Before, Fault, Item, Position, ReaderError, TokenFault, Tokens, attached_at, expect,
     metadata_behind_at, metadata_line_at, node_yet_at,
 };
@@ -57,7 +57,7 @@ fn triple_into(
 }
 
 /// Reads a line on the target, and adds it: `target triple = "x86_64-pc-linux-gnu"`.
-#[tactic(auto, unfolding(crate::specs::Putting::behind_at, crate::specs::ItemFormsAt::kept_at, ir_heads::specs::TargetsAt::target_line_at))]
+#[tactic(auto, unfolding(crate::specs::Putting::behind_at, crate::specs::ItemFormsAt::kept_at, ir_parse_heads::specs::TargetsAt::target_line_at))]
 fn target_into(
     alloc: Global,
     items: &mut Vec<Item>,
@@ -122,7 +122,7 @@ fn definition_into(
 ) -> Result<Before, ReaderError>
     ensures { Returns (λ b. ((items.new.items, b), tokens.new)) result (behind_at items.old.items (kept_at (definition_at room)) tokens.old) }
 {
-    ir_bodies::definition_into(alloc, room, items, tokens)?;
+    ir_parse_bodies::definition_into(alloc, room, items, tokens)?;
     Ok(Before::Item)
 }
 
@@ -251,7 +251,10 @@ fn attached_before_at(alloc: Global, tokens: &mut Tokens) -> Result<(), ReaderEr
 }
 
 /// Adds what a head declares; a lifetime marker isn't kept.
-fn push_declared(items: &mut Vec<Item>, head: ir_read::FunctionHeader) -> Result<(), ReaderError>
+fn push_declared(
+    items: &mut Vec<Item>,
+    head: ir_parse_parts::FunctionHeader,
+) -> Result<(), ReaderError>
     ensures pushed { OnOk result (items.new.items ≡ keep items.old.items (declared head)) }
     ensures memory { IfErr result (λ e. e ≡ NoMemory) }
 {

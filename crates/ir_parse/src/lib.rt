@@ -1,8 +1,8 @@
 //! Reads bytes as the one module of LLVM IR that they are, or tells their first fault.
 //!
-//! Below stand tokens (`ir_lex`), the parts of items (`ir_read`), heads and target lines (`ir_heads`), definitions of
-//! functions (`ir_bodies`), variables and type definitions (`ir_globals`), names (`ir_names`), the stages of names and
-//! shapes (`ir_stages`), and the functions and variables that are made (`named_values`). [`parse`] cuts the text into
+//! Below stand tokens (`ir_lex`), the parts of items (`ir_parse_parts`), heads and target lines (`ir_parse_heads`), definitions of
+//! functions (`ir_parse_bodies`), variables and type definitions (`ir_parse_globals`), names (`ir_parse_names`), the stages of names and
+//! shapes (`ir_parse_stages`), and the functions and variables that are made (`ir_parse_values`). [`parse`] cuts the text into
 //! tokens, reads these as items, resolves names, shapes and numbers in stages over the whole text, and gives the module
 //! with the lines of its parts. The first place at which no reading goes on is a statement of the grammar alone, and so
 //! is why the token there is refused (`specs/Refusals`); behind it the first stage that finds a fault tells it. Beside
@@ -17,7 +17,7 @@
 //! Tokens borrow the text, items hold copies of its names; recursion goes as deep as a shape, 32 levels. A text of
 //! `2^32 - 1` bytes or more is answered as want of memory.
 //!
-//! **Not shown.** That memory is found. That the grammar is LLVM's within the profile: `text_tests` tries it on texts.
+//! **Not shown.** That memory is found. That the grammar is LLVM's within the profile: `tests_text` tries it on texts.
 #![tactic(auto)]
 
 mod fault;

@@ -17,8 +17,8 @@ use crate::laws::read_is_parsed;
 use crate::stages::module_in;
 use crate::value_lines::lines_of;
 use ir_lex::{Lexed, lex};
-use ir_names::ResolveError;
-use ir_read::Item;
+use ir_parse_names::ResolveError;
+use ir_parse_parts::Item;
 use ir_tree::{Module, Parsed, Rows};
 use std::alloc::Global;
 

@@ -1,6 +1,6 @@
 //! What the reader resolves is formed.
 //!
-//! Laws of the resolution of functions and variables (`ir_names`), as functions whose contracts
+//! Laws of the resolution of functions and variables (`ir_parse_names`), as functions whose contracts
 //! state them. What is read has names; the tree that it resolves to has numbers and shapes, and a
 //! module keeps that each of its functions and variables is formed: types of 1 to 64 bits, numbers
 //! in their range, each local and each block defined once and there where it is used, shapes within

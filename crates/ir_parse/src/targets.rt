@@ -3,7 +3,7 @@ ghost use Rattle.std.specs.Prelude.{◌≡◌, IfOk, None, filter_map, option_ma
 ghost use Rattle.ir_parse.specs.Targets.{layout_string, triple_string, last_or, text_of};
 ghost use Rattle.ir_parse.specs.Targets as targets;
 
-use ir_read::{Item, Name};
+use ir_parse_parts::{Item, Name};
 use ir_tree::Text;
 use std::alloc::{AllocError, Global};
 

@@ -3,7 +3,7 @@ ghost use Rattle.std.specs.Prelude.{◌≡◌, ◌++◌, IfOk, OnOk, flat_map, m
 ghost use Rattle.ir_parse.specs.Lines.{block_lines, item_lines};
 ghost use Rattle.ir_parse.specs.Lines as definitions;
 
-use ir_read::{Block, Item, WrittenLine};
+use ir_parse_parts::{Block, Item, WrittenLine};
 use ir_tree::Rows;
 use std::alloc::{AllocError, Global};
 

@@ -1,14 +1,14 @@
 //! The global values of a module in the order of the text (LangRef, "Global Variables" and "Functions").
 ghost use Rattle.std.specs.Prelude.{◌≡◌};
-ghost use Rattle.ir_names.specs.Groups.{no_groups};
-ghost use Rattle.ir_names.specs.Resolving.{ResolvesTo};
+ghost use Rattle.ir_parse_names.specs.Groups.{no_groups};
+ghost use Rattle.ir_parse_names.specs.Resolving.{ResolvesTo};
 ghost use Rattle.ir_parse.specs.Values.{value_in, values_in};
-ghost use Rattle.ir_read.specs.declared.raw.Item.TheVariants as items;
+ghost use Rattle.ir_parse_parts.specs.declared.raw.Item.TheVariants as items;
 
-use ir_names::{Groups, ResolveError, Types, is_noinline, is_optnone};
-use ir_read::{Block, FunctionHeader, Item, Variable};
+use ir_parse_names::{Groups, ResolveError, Types, is_noinline, is_optnone};
+use ir_parse_parts::{Block, FunctionHeader, Item, Variable};
+use ir_parse_values::{declaration_in, function_in, variable_in};
 use ir_tree::{GlobalValue, Rows};
-use named_values::{declaration_in, function_in, variable_in};
 use std::alloc::Global;
 
 /// The global value that a variable is.

@@ -7,7 +7,7 @@
 //! are, and `itoa` for decimals.
 //!
 //! **Promise.** [`print`], [`print_function`] and [`print_variable`] give exactly the form's bytes (`specs/Modules`,
-//! `specs/Functions`, `specs/Variables`). That they are read as what was printed is a law of `read_again`.
+//! `specs/Functions`, `specs/Variables`). That they are read as what was printed is a law of `ir_round_trip`.
 //!
 //! **Cost.** Time is linear in what is written: each byte is written once, behind what stands there.
 //!

@@ -17,7 +17,7 @@
 //! ([`Rows`]) that couldn't be added to is as it was.
 //!
 //! **Not shown.** That a copy is ever made: a refusal for want of memory meets each clause. That these layouts are
-//! those of LLVM's back end, beyond the examples of `text_tests`.
+//! those of LLVM's back end, beyond the examples of `tests_text`.
 #![tactic(auto)]
 
 mod block;

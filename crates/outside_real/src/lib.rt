@@ -13,7 +13,7 @@
 //! refused is a fault.
 //!
 //! **Not shown.** That a real file holds what was put, a renamed entry what was saved, and that streams give and take
-//! bytes in order: `outside_tests` tries these on a few files. What other programs do to the files in between.
+//! bytes in order: `tests_outside` tries these on a few files. What other programs do to the files in between.
 #![tactic(auto)]
 
 mod bytes;

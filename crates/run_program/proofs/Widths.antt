@@ -2,8 +2,8 @@
 use Rattle.std.proofs.Common.{◌≡◌, ◌∙◌, ◌<◌, ◌≤◌, ◌+◌, ◌-◌, ◌/◌, ◌%◌, ◌^◌, ℕ, Bool, true, false, not, if◌then◌else◌, nat_eq, nat_le, nat_lt, Some, None, ap, sym, arith}
 use Rattle.std.proofs.lemmas.Bool.{ne_eqb}
 use Rattle.std.proofs.lemmas.Bool.Decides.{nat_tests}
-use Rattle.ir_read.specs.Literals.{negated}
-use Rattle.ir_read.proofs.Widths.{half_pow}
+use Rattle.ir_parse_parts.specs.Literals.{negated}
+use Rattle.ir_parse_parts.proofs.Widths.{half_pow}
 use Rattle.lto_fault.specs.declared.returned.Returned.TheVariants.{Number, Truth}
 use Rattle.run_program.specs.Said.{number_said}
 

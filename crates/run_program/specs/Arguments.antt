@@ -3,7 +3,7 @@ use Rattle.std.specs.Prelude.{ℕ, Option, Some, None}
 use Rattle.ir_tree.specs.declared.function.Param.{Param}
 use Rattle.ir_tree.specs.declared.operand.Reg.{Reg}
 use Rattle.ir_tree.specs.declared.operand.Reg.TheVariants.{Int, Ptr}
-use Rattle.ir_read.specs.Literals.{IsWidth}
+use Rattle.ir_parse_parts.specs.Literals.{IsWidth}
 use Rattle.lto_words.specs.declared.list.Decimal.{Decimal}
 use Rattle.run_program.specs.Starting.{argument}
 

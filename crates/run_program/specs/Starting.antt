@@ -4,7 +4,7 @@ use Rattle.ir_tree.specs.declared.function.Function.{Function}
 use Rattle.ir_tree.specs.declared.function.Param.{Param}
 use Rattle.ir_tree.specs.declared.operand.Reg.{Reg}
 use Rattle.ir_tree.specs.declared.operand.Reg.TheVariants.{Int, Ptr}
-use Rattle.ir_read.specs.Literals.{negated, unsigned}
+use Rattle.ir_parse_parts.specs.Literals.{negated, unsigned}
 use Rattle.ir_meaning.specs.Program.{Program, State}
 use Rattle.ir_meaning.specs.Run.{start}
 use Rattle.ir_meaning.specs.declared.value.Value.TheVariants.{Number}

@@ -1,6 +1,6 @@
 //! Integers of a width, as the words of a run give them and as its line says them (LangRef, "Simple Constants").
 ghost use Rattle.std.specs.Prelude.{◌≡◌, ◌+◌, ◌<◌, ◌^◌};
-ghost use Rattle.ir_read.specs.Literals.{IsWidth, negated, unsigned};
+ghost use Rattle.ir_parse_parts.specs.Literals.{IsWidth, negated, unsigned};
 ghost use Rattle.run_program.specs.Said.{number_said};
 ghost use Rattle.run_program.specs.Starting.{literal};
 

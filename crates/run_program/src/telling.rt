@@ -2,7 +2,7 @@
 ghost use Rattle.std.specs.Prelude.{◌≡◌, List};
 ghost use Rattle.ir_tree.specs.Wholes.{symbols};
 ghost use Rattle.ir_tree.specs.declared.operand.Symbol.{Symbol};
-ghost use Rattle.ir_read.specs.Literals.{IsWidth};
+ghost use Rattle.ir_parse_parts.specs.Literals.{IsWidth};
 ghost use Rattle.ir_meaning.specs.Fault as fault;
 ghost use Rattle.ir_meaning.specs.Operate.{bits_of as bits_in};
 ghost use Rattle.ir_meaning.specs.declared.value.Value.TheVariants.{Number};

@@ -34,12 +34,12 @@ use Rattle.link_one.specs.Linking.{IsLinkOf}
 use Rattle.link_one.proofs.Bettering.{among_sound}
 use Rattle.link_one.proofs.Compiling.{AreAmong, pairs}
 use Rattle.link_one.proofs.Texts.{all_verified}
-use Rattle.read_again.specs.Sorts.{IsNumbered}
+use Rattle.ir_round_trip.specs.Sorts.{IsNumbered}
 use Rattle.promote_rename.specs.Suffixes.{suffix_of}
-use Rattle.read_again.specs.Laws.{ReadIsNumbered, TextOrderIsNumbered, VerifiedIsRead}
-use Rattle.read_again.specs.Numbered.{LocalsNumbered, ModuleNumbered, StringsAreBytes}
-use Rattle.read_again.specs.Within.{ModuleWithin}
-use Rattle.read_again.proofs.Renamed.{locals_under, strings_under}
+use Rattle.ir_round_trip.specs.Laws.{ReadIsNumbered, TextOrderIsNumbered, VerifiedIsRead}
+use Rattle.ir_round_trip.specs.Numbered.{LocalsNumbered, ModuleNumbered, StringsAreBytes}
+use Rattle.ir_round_trip.specs.Within.{ModuleWithin}
+use Rattle.ir_round_trip.proofs.Renamed.{locals_under, strings_under}
 
 -- what is linked of files
 pub record ReadingLaws : Type 0 where

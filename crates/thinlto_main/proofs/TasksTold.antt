@@ -20,9 +20,9 @@ use Rattle.link_one.specs.Accepted.{Accepts}
 use Rattle.link_one.specs.TaskLaws.{TasksAreVerified}
 use Rattle.link_one.specs.TaskUnits.{IsTaskUnit, IsUnitText}
 use Rattle.link_one.proofs.Texts.{all_verified}
-use Rattle.read_again.specs.Classes.{IsOrdinary}
-use Rattle.read_again.specs.Renamed.{DeclarationsAreSpelled, IsReadOf, PartsAreSpelled, SpelledIsTold, ValueSpelled}
-use Rattle.read_again.specs.Tasks.{IsSpelled, TaskTextIsOne}
+use Rattle.ir_round_trip.specs.Classes.{IsOrdinary}
+use Rattle.ir_round_trip.specs.Renamed.{DeclarationsAreSpelled, IsReadOf, PartsAreSpelled, SpelledIsTold, ValueSpelled}
+use Rattle.ir_round_trip.specs.Tasks.{IsSpelled, TaskTextIsOne}
 use Rattle.thinlto_main.specs.Honest.{HonestEntry, IsTask}
 use Rattle.thinlto_main.specs.Tasks.{IsTaskOfFiles, TasksAreSpelled, TasksAreTold}
 use Rattle.thinlto_main.proofs.Rereading.{host_plain}

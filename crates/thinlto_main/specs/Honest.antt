@@ -5,7 +5,7 @@ use Rattle.lto_task.specs.Pieces.{NamesRise}
 use Rattle.lto_task.specs.Tasks.{TaskView, module_of, task_text}
 use Rattle.lto_words.specs.declared.request.LinkOptions.{LinkOptions}
 use Rattle.link_one.specs.TaskUnits.{IsUnitText}
-use Rattle.read_again.specs.Tasks.{IsSpelled}
+use Rattle.ir_round_trip.specs.Tasks.{IsSpelled}
 
 -- Both modules are verified and such as reading gives them, and each list of names rises: so the text tells the whole of the task.
 pub record IsTask (t : TaskView) : Type 0 where

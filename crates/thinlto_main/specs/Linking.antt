@@ -4,7 +4,7 @@ use Rattle.std.specs.List.{AllZip}
 use Rattle.ir_tree.specs.Names.{AllBytes}
 use Rattle.ir_tree.specs.declared.module.Module.{Module}
 use Rattle.ir_parse.specs.Reading.{Reads}
-use Rattle.read_again.specs.Within.{ModuleWithin}
+use Rattle.ir_round_trip.specs.Within.{ModuleWithin}
 use Rattle.lto_fault.specs.declared.refusal.Refusal.{Refusal}
 use Rattle.lto_words.specs.Fetching.{fetch_calls}
 use Rattle.lto_words.specs.declared.request.LinkOptions.{LinkOptions}

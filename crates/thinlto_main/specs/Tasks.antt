@@ -7,7 +7,7 @@ use Rattle.promote_rename.specs.Suffixes.{suffix_of}
 use Rattle.lto_task.specs.Tasks.{IsWrittenTask, TaskView, task_text}
 use Rattle.link_one.specs.Accepted.{Accepts}
 use Rattle.link_one.specs.ModuleUnits.{IsTaskInLink}
-use Rattle.read_again.specs.Tasks.{IsSpelled}
+use Rattle.ir_round_trip.specs.Tasks.{IsSpelled}
 
 -- the task of a module of a link of these files
 pub record IsTaskOfFiles (files : List (List ℕ)) (t : TaskView) : Type 0 where

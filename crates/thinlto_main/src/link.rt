@@ -31,6 +31,10 @@ use crate::tasks::tasks_are_spelled;
 use back_end::made_is_better;
 use cache_slot::{CachePass, Setting, SharedCache};
 use emit::emission_is_one;
+use ir_round_trip::{
+    read_modules_are_numbered, tasks_with_one_text_are_one, text_order_is_numbered,
+    verified_modules_are_read,
+};
 use ir_tree::{Text, Verified};
 use link_one::{accepted_is_not_refused, linked_is_verified, tasks_are_verified, unlinked_is_one};
 use lto_fault::Refusal;
@@ -38,10 +42,6 @@ use lto_outside::{CacheDisk, Files, Gate};
 use lto_task::all_bytes;
 use lto_words::{FileName, LinkOptions, fetch_all};
 use merge_meaning::live_by_module;
-use read_again::{
-    read_modules_are_numbered, tasks_with_one_text_are_one, text_order_is_numbered,
-    verified_modules_are_read,
-};
 use std::alloc::Global;
 use std::marker::Brand;
 use std::sync::Wait;

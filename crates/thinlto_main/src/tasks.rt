@@ -2,11 +2,11 @@
 ghost use Rattle.thinlto_main.specs.Tasks.{TasksAreSpelled, TasksAreTold};
 
 use importer::tasks_are_of_parts;
-use link_one::tasks_are_verified;
-use read_again::{
+use ir_round_trip::{
     declarations_are_spelled, parts_are_spelled, spelled_modules_are_told,
     tasks_with_one_text_are_one,
 };
+use link_one::tasks_are_verified;
 
 /// The text of a task of files of bytes tells the whole of it.
 pub fn tasks_are_spelled()

@@ -1,9 +1,9 @@
-use Rattle.ir_read.specs.Alphabet.{among}
-use Rattle.ir_read.specs.Readers.{dropped}
-use Rattle.ir_read.proofs.Stars.{takes, folds_on}
-use Rattle.ir_read.specs.Classes.{tokens}
-use Rattle.ir_read.specs.Metadata.{META}
-use Rattle.ir_read.proofs.Nodes.{attached_rule}
+use Rattle.ir_parse_parts.specs.Alphabet.{among}
+use Rattle.ir_parse_parts.specs.Readers.{dropped}
+use Rattle.ir_parse_parts.proofs.Stars.{takes, folds_on}
+use Rattle.ir_parse_parts.specs.Classes.{tokens}
+use Rattle.ir_parse_parts.specs.Metadata.{META}
+use Rattle.ir_parse_parts.proofs.Nodes.{attached_rule}
 use Rattle.ir_parse.proofs.items.attached_before_at.Goals as goal
 
 pub each-smaller : goal.each-smaller

@@ -1,6 +1,6 @@
 use Rattle.std.proofs.Common.{sym, ◌∙◌}
-use Rattle.ir_heads.specs.AttributesAt.{HEAD}
-use Rattle.ir_read.proofs.Heads.{next_head}
+use Rattle.ir_parse_heads.specs.AttributesAt.{HEAD}
+use Rattle.ir_parse_parts.proofs.Heads.{next_head}
 use Rattle.ir_parse.proofs.items.comes_head_attribute.Goals as goal
 
 pub returns-in-Some : goal.returns-in-Some

@@ -1,6 +1,6 @@
 use Rattle.std.proofs.Common.{sym, ◌∙◌}
-use Rattle.ir_globals.specs.Variables.{NAMES}
-use Rattle.ir_read.proofs.Heads.{next_head}
+use Rattle.ir_parse_globals.specs.Variables.{NAMES}
+use Rattle.ir_parse_parts.proofs.Heads.{next_head}
 use Rattle.ir_parse.proofs.items.comes_variable.Goals as goal
 
 pub returns-in-Some : goal.returns-in-Some

@@ -1,8 +1,8 @@
 use Rattle.std.proofs.Common.{not, [], sym, ap, ◌∙◌, arith}
-use Rattle.ir_read.specs.Chained.{chain_at}
-use Rattle.ir_read.specs.Readers.{Fails}
-use Rattle.ir_read.proofs.ChainLoops.{chain_none}
-use Rattle.ir_read.proofs.Stars.{folded_is}
+use Rattle.ir_parse_parts.specs.Chained.{chain_at}
+use Rattle.ir_parse_parts.specs.Readers.{Fails}
+use Rattle.ir_parse_parts.proofs.ChainLoops.{chain_none}
+use Rattle.ir_parse_parts.proofs.Stars.{folded_is}
 use Rattle.ir_parse.specs.ItemForms.{anywhere, keep}
 use Rattle.ir_parse.specs.ItemFormsAt.{begins_there, there_at, first_place, items_at}
 use Rattle.ir_parse.proofs.ItemLoops.{shorter, items_shorter, items_on, items_fail}

@@ -1,6 +1,6 @@
 use Rattle.std.proofs.Common.{◌≡◌, length, []}
-use Rattle.ir_read.specs.Chained.{chain_at}
-use Rattle.ir_read.specs.Readers.{folded}
+use Rattle.ir_parse_parts.specs.Chained.{chain_at}
+use Rattle.ir_parse_parts.specs.Readers.{folded}
 use Rattle.ir_parse.specs.ItemForms.{anywhere, keep}
 use Rattle.ir_parse.specs.ItemFormsAt.{begins_there, there_at, first_place}
 use Rattle.ir_parse.proofs.items.items_into.Given as goal

@@ -1,5 +1,5 @@
 use Rattle.std.proofs.Common.{◌≡◌, arith}
-use Rattle.ir_read.specs.Readers.{Fails}
+use Rattle.ir_parse_parts.specs.Readers.{Fails}
 use Rattle.ir_parse.specs.ItemFormsAt.{named_within_at}
 use Rattle.ir_parse.specs.Putting.{behind_at}
 use Rattle.ir_parse.proofs.Putting.{named_gives, named_fails, named_full}

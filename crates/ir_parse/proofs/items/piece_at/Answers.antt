@@ -1,7 +1,7 @@
 use Rattle.std.proofs.Common.{◌≡◌, true, false, arith}
-use Rattle.ir_read.specs.Alphabet.{among}
-use Rattle.ir_read.specs.Readers.{Fails, next_is}
-use Rattle.ir_read.specs.Classes.{tokens}
+use Rattle.ir_parse_parts.specs.Alphabet.{among}
+use Rattle.ir_parse_parts.specs.Readers.{Fails, next_is}
+use Rattle.ir_parse_parts.specs.Classes.{tokens}
 use Rattle.ir_parse.specs.ItemFormsAt.{NAMING, there_at}
 use Rattle.ir_parse.specs.Putting.{behind_at}
 use Rattle.ir_parse.proofs.Putting.{piece_named, piece_gives, piece_fails}

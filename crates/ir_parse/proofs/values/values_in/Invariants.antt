@@ -1,5 +1,5 @@
 use Rattle.std.proofs.Common.{◌≡◌, drop}
-use Rattle.ir_names.proofs.Each.{in_front}
+use Rattle.ir_parse_names.proofs.Each.{in_front}
 use Rattle.ir_parse.specs.Values.{values_in}
 use Rattle.ir_parse.proofs.values.values_in.Given as goal
 

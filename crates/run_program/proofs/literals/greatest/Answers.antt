@@ -1,4 +1,4 @@
-use Rattle.ir_read.proofs.Widths.{all_ones}
+use Rattle.ir_parse_parts.proofs.Widths.{all_ones}
 use Rattle.run_program.proofs.literals.greatest.Goals as goal
 
 pub returns : goal.returns

@@ -1,5 +1,5 @@
 use Rattle.std.proofs.Common.{refl, arith}
-use Rattle.ir_read.proofs.Widths.{half_pow, negative}
+use Rattle.ir_parse_parts.proofs.Widths.{half_pow, negative}
 use Rattle.run_program.proofs.Widths.{too_great}
 use Rattle.run_program.proofs.literals.negated.Goals as goal
 

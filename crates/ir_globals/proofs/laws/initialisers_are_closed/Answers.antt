@@ -1,5 +1,0 @@
-use Rattle.ir_globals.proofs.Closes.{initialiser_close}
-use Rattle.ir_globals.proofs.laws.initialisers_are_closed.Goals as goal
-
-pub returns : goal.returns
-returns c = initialiser_close

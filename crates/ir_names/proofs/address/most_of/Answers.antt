@@ -1,5 +1,0 @@
-use Rattle.ir_read.proofs.Widths.{all_ones}
-use Rattle.ir_names.proofs.address.most_of.Goals as goal
-
-pub returns : goal.returns
-returns c = all_ones c.args.width c.requires.most

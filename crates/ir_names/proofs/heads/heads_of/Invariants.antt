@@ -1,5 +1,0 @@
-use Rattle.ir_names.specs.Heads.{AreHeads}
-use Rattle.ir_names.proofs.heads.heads_of.Given as goal
-
-abbrev pub invariant-each : goal.invariant-each
-invariant-each l = AreHeads l.names 0 l.heads.items

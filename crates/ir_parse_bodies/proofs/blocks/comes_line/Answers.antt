@@ -1,0 +1,7 @@
+use Rattle.std.proofs.Common.{sym, ◌∙◌}
+use Rattle.ir_parse_parts.proofs.Heads.{next_head}
+use Rattle.ir_parse_bodies.specs.LinesAt.{LINE}
+use Rattle.ir_parse_bodies.proofs.blocks.comes_line.Goals as goal
+
+pub returns-in-Some : goal.returns-in-Some
+returns-in-Some c = c.begins_line.ensures ∙ sym (next_head LINE c.args.rest.now c.in-Some.head c.in-Some.ensures)

@@ -1,0 +1,13 @@
+use Rattle.ir_parse_parts.specs.Alphabet.{among}
+use Rattle.ir_parse_parts.specs.Readers.{dropped}
+use Rattle.ir_parse_parts.proofs.Stars.{takes, folds_on}
+use Rattle.ir_parse_parts.specs.Classes.{tokens}
+use Rattle.ir_parse_heads.specs.AttributesAt.{PARAMETER}
+use Rattle.ir_parse_heads.proofs.AttributeRules.{parameter_attribute_rule}
+use Rattle.ir_parse_heads.proofs.attributes.parameter_attributes_at.Goals as goal
+
+pub each-smaller : goal.each-smaller
+each-smaller c = takes tokens (among tokens PARAMETER) parameter_attribute_rule.law _ _ _ c.in_ok-parameter_attribute_at.ensures
+
+pub each-preserved : goal.each-preserved
+each-preserved c = folds_on tokens (among tokens PARAMETER) parameter_attribute_rule.law dropped tt _ _ _ _ c.each-test.ensures c.in_ok-parameter_attribute_at.ensures c.each.invariant

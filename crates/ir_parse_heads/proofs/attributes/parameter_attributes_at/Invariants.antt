@@ -1,0 +1,12 @@
+use Rattle.std.proofs.Common.{◌≡◌, length}
+use Rattle.ir_parse_parts.specs.Alphabet.{among}
+use Rattle.ir_parse_parts.specs.Readers.{star_at, folded, dropped}
+use Rattle.ir_parse_parts.specs.Classes.{tokens}
+use Rattle.ir_parse_heads.specs.AttributesAt.{PARAMETER, parameter_attribute_at}
+use Rattle.ir_parse_heads.proofs.attributes.parameter_attributes_at.Given as goal
+
+abbrev pub invariant-each : goal.invariant-each
+invariant-each l = folded dropped tt (star_at (among tokens PARAMETER) parameter_attribute_at l.tokens) ≡ folded dropped tt (star_at (among tokens PARAMETER) parameter_attribute_at l.fn.tokens)
+
+abbrev pub decreases-each : goal.decreases-each
+decreases-each l = length l.tokens

@@ -1,0 +1,23 @@
+-- A loop that makes one value of each.
+use Rattle.std.proofs.Common.{◌≡◌, ℕ, List, [], ◌∷◌, ◌++◌, Result, Ok, Err, refl, sym, ap, ◌∙◌, append_assoc, suc, ◌+◌, ◌<◌, length, drop, get_or, add-one, drop-cons}
+use Rattle.ir_parse_names.specs.Resolving.{each, ◌>>=◌}
+
+-- what is left from k on begins with the item at k
+pub here : {A : Type 0} (xs : List A) (k : ℕ) (x : A) → k < length xs → x ≡ get_or xs k x → drop k xs ≡ x ∷ drop (k + 1) xs
+here xs k x at is = drop-cons xs k x at ∙ ap (λ y. y ∷ drop (suc k) xs) (sym is) ∙ ap (λ n. x ∷ drop n xs) (sym (add-one k))
+
+abbrev pub in_front : {B E : Type 0} → List B → Result (List B) E → Result (List B) E
+in_front front r = r >>= λ ys. Ok (front ++ ys)
+
+module _ {A B E : Type 0} (f : A → Result B E) where
+  regroup : (front : List B) (y : B) (r : Result (List B) E) → in_front front (r >>= λ ys. Ok (y ∷ ys)) ≡ in_front (front ++ y ∷ []) r
+  regroup front y (Ok ys) = ap (λ (z : List B). Ok z) (sym (append_assoc front (y ∷ []) ys))
+  regroup front y (Err e) = refl
+
+  -- one more is made
+  pub makes : (front : List B) (x : A) (y : B) (xs : List A) → f x ≡ Ok y → in_front front (each f (x ∷ xs)) ≡ in_front (front ++ y ∷ []) (each f xs)
+  makes front x y xs h = ap (λ (r : Result B E). in_front front (r >>= λ z. each f xs >>= λ zs. Ok (z ∷ zs))) h ∙ regroup front y (each f xs)
+
+  -- and the list is one item shorter
+  pub goes_on : (xs : List A) (k : ℕ) (front : List B) (x : A) (y : B) → k < length xs → x ≡ get_or xs k x → f x ≡ Ok y → in_front front (each f (drop k xs)) ≡ in_front (front ++ y ∷ []) (each f (drop (k + 1) xs))
+  goes_on xs k front x y at is h = ap (λ more. in_front front (each f more)) (here xs k x at is) ∙ makes front x y (drop (k + 1) xs) h

@@ -1,0 +1,11 @@
+use Rattle.std.proofs.Common.{◌≡◌, length}
+use Rattle.ir_parse_parts.specs.Readers.{folded}
+use Rattle.ir_parse_parts.proofs.Stars.{behind}
+use Rattle.ir_parse_operands.specs.ValuesAt.{indices_at}
+use Rattle.ir_parse_operands.proofs.values.indices_at.Given as goal
+
+abbrev pub invariant-each : goal.invariant-each
+invariant-each l = folded behind l.indices.items (indices_at l.tokens) ≡ indices_at l.fn.tokens
+
+abbrev pub decreases-each : goal.decreases-each
+decreases-each l = length l.tokens

@@ -1,0 +1,24 @@
+-- Marks behind marks.
+use Rattle.std.proofs.Common.{◌≡◌, sym, ap, ◌∙◌, ℕ, suc, ◌+◌, ◌<◌, List, ◌∷◌, ◌++◌, length, drop, get_or, append_assoc, add-one, drop-cons}
+use Rattle.ir_parse_parts.specs.declared.address.Level.{Level}
+use Rattle.ir_parse_names.specs.Marks.{Mark, uses, level_uses}
+
+-- what is left from k on begins with the item at k
+pub here : {A : Type 0} (xs : List A) (k : ℕ) (x : A) → k < length xs → x ≡ get_or xs k x → drop k xs ≡ x ∷ drop (k + 1) xs
+here xs k x at is = drop-cons xs k x at ∙ ap (λ y. y ∷ drop (suc k) xs) (sym is) ∙ ap (λ n. x ∷ drop n xs) (sym (add-one k))
+
+-- marks, and then more
+pub joined : (first second old mid new : List Mark) → mid ≡ old ++ first → new ≡ mid ++ second → new ≡ old ++ (first ++ second)
+joined first second old mid new h g = g ∙ ap (λ ms. ms ++ second) h ∙ append_assoc old first second
+
+-- those of one more item of a list
+pub goes_on : {A : Type 0} (f : A → List Mark) (g : List A → List Mark) → ((y : A) (ys : List A) → g (y ∷ ys) ≡ f y ++ g ys) → (xs : List A) (k : ℕ) (x : A) (start now next : List Mark)
+    → k < length xs → x ≡ get_or xs k x → now ++ g (drop k xs) ≡ start → next ≡ now ++ f x → next ++ g (drop (k + 1) xs) ≡ start
+goes_on f g by xs k x start now next at is h e =
+    ap (λ ms. ms ++ g (drop (k + 1) xs)) e ∙ append_assoc now (f x) (g (drop (k + 1) xs)) ∙ ap (λ ys. now ++ ys) (sym (ap g (here xs k x at is) ∙ by x (drop (k + 1) xs))) ∙ h
+
+-- those of one more level, from the last one on
+pub level_more : (ls : List Level) (k : ℕ) (l : Level) (start now next : List Mark)
+    → k < length ls → l ≡ get_or ls k l → now ≡ start ++ level_uses (drop (k + 1) ls) → next ≡ now ++ uses l.typed.shape → next ≡ start ++ level_uses (drop k ls)
+level_more ls k l start now next at is h e =
+    e ∙ ap (λ ms. ms ++ uses l.typed.shape) h ∙ append_assoc start (level_uses (drop (k + 1) ls)) (uses l.typed.shape) ∙ ap (λ ys. start ++ level_uses ys) (sym (here ls k l at is))

@@ -1,0 +1,8 @@
+use Rattle.std.proofs.Common.{◌≡◌, drop}
+use Rattle.ir_parse_names.specs.Bodies.{incoming_in}
+use Rattle.ir_parse_names.specs.Resolving.{each}
+use Rattle.ir_parse_names.proofs.Each.{in_front}
+use Rattle.ir_parse_values.proofs.operand.entries_in.Given as goal
+
+abbrev pub invariant-each : goal.invariant-each
+invariant-each l = in_front l.out (each (incoming_in l.types l.locals) (drop l.entry-index l.entries)) ≡ each (incoming_in l.types l.locals) l.entries

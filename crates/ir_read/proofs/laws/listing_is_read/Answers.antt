@@ -1,8 +1,0 @@
-use Rattle.ir_read.proofs.Listed as listing
-use Rattle.ir_read.proofs.laws.listing_is_read.Goals as goal
-
-pub returns-clause-found : goal.returns-clause-found
-returns-clause-found c = listing.found
-
-pub returns-clause-only : goal.returns-clause-only
-returns-clause-only c = listing.only

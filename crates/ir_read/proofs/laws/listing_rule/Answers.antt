@@ -1,5 +1,0 @@
-use Rattle.ir_read.proofs.Listed as listing
-use Rattle.ir_read.proofs.laws.listing_rule.Goals as goal
-
-pub returns : goal.returns
-returns c = listing.listing_rule

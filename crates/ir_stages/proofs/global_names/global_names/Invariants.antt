@@ -1,7 +1,0 @@
-use Rattle.std.proofs.Common.{◌≡◌, [], drop}
-use Rattle.ir_stages.proofs.Runs.{names}
-use Rattle.ir_stages.specs.MarkViews.{marks}
-use Rattle.ir_stages.proofs.global_names.global_names.Given as goal
-
-abbrev pub invariant-each : goal.invariant-each
-invariant-each l = names l.names (marks (drop l.mark-index l.rows)) ≡ names [] (marks l.rows)

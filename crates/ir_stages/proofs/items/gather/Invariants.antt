@@ -1,6 +1,0 @@
-use Rattle.std.proofs.Common.{◌≡◌, ◌++◌, drop}
-use Rattle.ir_names.specs.Marks.{marks_of}
-use Rattle.ir_stages.proofs.items.gather.Given as goal
-
-abbrev pub invariant-each : goal.invariant-each
-invariant-each l = l.marks ++ marks_of (drop l.item-index l.items) ≡ l.fn.marks ++ marks_of l.items

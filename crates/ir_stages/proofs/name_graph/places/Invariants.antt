@@ -1,7 +1,0 @@
-use Rattle.std.proofs.Common.{◌≡◌, [], drop}
-use Rattle.ir_stages.specs.MarkViews.{marks}
-use Rattle.ir_stages.proofs.Runs.{row}
-use Rattle.ir_stages.proofs.name_graph.places.Given as goal
-
-abbrev pub invariant-each : goal.invariant-each
-invariant-each l = row l.types l.row.items (marks (drop l.mark-index l.rows)) ≡ row l.types [] (marks l.rows)

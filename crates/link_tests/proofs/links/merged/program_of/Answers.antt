@@ -1,4 +1,0 @@
-use Rattle.link_tests.proofs.links.merged.program_of.Goals as goal
-
-pub program-requires : goal.program-requires
-program-requires c = c.in-Ok.ensures.1

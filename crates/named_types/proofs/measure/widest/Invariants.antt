@@ -1,9 +1,0 @@
-use Rattle.std.proofs.Common.{◌≡◌, ◌≤◌, drop, max}
-use Rattle.named_types.specs.Measures.{widest}
-use Rattle.named_types.proofs.measure.widest.Given as goal
-
-abbrev pub invariant-each : goal.invariant-each
-invariant-each l = record {
-  rest : max l.most (widest (drop l.part-index l.parts)) ≡ widest l.parts;
-  least : 1 ≤ l.most;
-}

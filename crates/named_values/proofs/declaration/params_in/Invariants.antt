@@ -1,6 +1,0 @@
-use Rattle.std.proofs.Common.{◌≡◌, ◌++◌, drop}
-use Rattle.named_values.specs.Blocks.{params_from}
-use Rattle.named_values.proofs.declaration.params_in.Given as goal
-
-abbrev pub invariant-each : goal.invariant-each
-invariant-each l = l.out ++ params_from l.next (drop l.param-index l.written) ≡ params_from 0 l.written

@@ -1,8 +1,0 @@
-use Rattle.std.proofs.Common.{◌≡◌, drop}
-use Rattle.ir_names.specs.Bodies.{incoming_in}
-use Rattle.ir_names.specs.Resolving.{each}
-use Rattle.ir_names.proofs.Each.{in_front}
-use Rattle.named_values.proofs.operand.entries_in.Given as goal
-
-abbrev pub invariant-each : goal.invariant-each
-invariant-each l = in_front l.out (each (incoming_in l.types l.locals) (drop l.entry-index l.entries)) ≡ each (incoming_in l.types l.locals) l.entries

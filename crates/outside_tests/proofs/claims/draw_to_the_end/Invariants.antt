@@ -1,5 +1,0 @@
-use Rattle.claim_word.specs.Passes.{IsPassOf}
-use Rattle.outside_tests.proofs.claims.draw_to_the_end.Given as goal
-
-abbrev pub invariant-loop : goal.invariant-loop
-invariant-loop l = IsPassOf l.claims l.drawer.pass

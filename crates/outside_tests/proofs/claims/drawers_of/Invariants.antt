@@ -1,9 +1,0 @@
-use Rattle.std.proofs.Common.{All}
-use Rattle.claim_word.specs.Passes.{IsPassOf}
-use Rattle.outside_tests.proofs.claims.drawers_of.Given as goal
-
-abbrev pub invariant-loop : goal.invariant-loop
-invariant-loop l = record {
-  first : IsPassOf l.claims l.first;
-  drawers : All (λ d. IsPassOf l.claims d.pass) l.drawers.items;
-}

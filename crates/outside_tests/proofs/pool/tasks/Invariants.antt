@@ -1,5 +1,0 @@
-use Rattle.std.proofs.Common.{◌≡◌, length}
-use Rattle.outside_tests.proofs.pool.tasks.Given as goal
-
-abbrev pub invariant-loop-limit : goal.invariant-loop-limit
-invariant-loop-limit l = length l.tasks.items ≡ l.limit-index

@@ -1,5 +1,0 @@
-use Rattle.read_again.proofs.AnewAgain.{anew_again}
-use Rattle.read_again.proofs.laws.modules_numbered_anew_are_read.Goals as goal
-
-pub returns : goal.returns
-returns c = anew_again c.text_order_is_sound.ensures c.text_order_is_numbered.ensures c.verified_modules_are_read.ensures

@@ -1,5 +1,0 @@
-use Rattle.read_again.proofs.Together.{is_known}
-use Rattle.read_again.proofs.laws.read_modules_are_known.Goals as goal
-
-pub returns : goal.returns
-returns c = is_known c.read_is_parsed.ensures

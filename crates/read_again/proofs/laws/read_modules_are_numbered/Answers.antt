@@ -1,8 +1,0 @@
-use Rattle.read_again.proofs.Numbering.{read_numbered}
-use Rattle.read_again.proofs.ReadStrings.{read_strings}
-use Rattle.read_again.proofs.laws.read_modules_are_numbered.Goals as goal
-
-pub returns : goal.returns
-returns c = λ bytes m lines h r.
-    let strings = read_strings bytes m lines h r in
-    record { strings = strings.values; locals = read_numbered bytes m lines r; triple = strings.triple }

@@ -1,5 +1,0 @@
-use Rattle.read_again.proofs.Modules.{readable_read}
-use Rattle.read_again.proofs.laws.readable_modules_are_read.Goals as goal
-
-pub returns : goal.returns
-returns c = readable_read c.modules_are_read.ensures.text

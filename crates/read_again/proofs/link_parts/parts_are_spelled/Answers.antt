@@ -1,5 +1,0 @@
-use Rattle.read_again.proofs.PartsSpelled.{parts_are_spelled}
-use Rattle.read_again.proofs.link_parts.parts_are_spelled.Goals as goal
-
-pub returns : goal.returns
-returns c = parts_are_spelled c.read_values_are_spelled.ensures c.names_keep_spelling.ensures c.suffixed_names_are_writable.ensures

@@ -1,5 +1,0 @@
-use Rattle.read_again.proofs.PartsSpelled.{read_spelled}
-use Rattle.read_again.proofs.link_parts.read_values_are_spelled.Goals as goal
-
-pub returns : goal.returns
-returns c = read_spelled c.read_modules_are_within.ensures c.read_modules_are_numbered.ensures

@@ -1,8 +1,0 @@
-use Rattle.read_again.proofs.PartsOperands.{operand_read, argument_read}
-use Rattle.read_again.proofs.parts.operands_are_read.Goals as goal
-
-pub returns-clause-operand : goal.returns-clause-operand
-returns-clause-operand c = operand_read
-
-pub returns-clause-argument : goal.returns-clause-argument
-returns-clause-argument c = argument_read

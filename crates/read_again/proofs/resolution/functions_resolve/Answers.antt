@@ -1,8 +1,0 @@
-use Rattle.read_again.proofs.PrintedFunctions.{definition_again, declaration_again}
-use Rattle.read_again.proofs.resolution.functions_resolve.Goals as goal
-
-pub returns-clause-definition : goal.returns-clause-definition
-returns-clause-definition c = definition_again
-
-pub returns-clause-declaration : goal.returns-clause-declaration
-returns-clause-declaration c = declaration_again
