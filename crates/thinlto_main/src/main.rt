@@ -23,6 +23,7 @@
 #![tactic(auto)]
 
 ghost use Rattle.std.specs.Prelude.{◌≡◌, ◌↔◌, ◌∷◌, ℕ, [], List, MatchOption};
+ghost use Rattle.thinlto_main.specs.Exit.{exit_of};
 ghost use Rattle.thinlto_main.specs.Honest.{HonestEntry};
 
 mod batch;
@@ -69,6 +70,13 @@ fn given_words<'a>(words: &'a Option<Vec<String>>, no_word: &'a String) -> &'a [
     }
 }
 
+/// The number that the process ends with behind a command that ended so.
+fn number_of<D: Drop>(ended: Ended<D>) -> u8
+    ensures { result ≡ exit_of ended.status }
+{
+    status_of(&ended.status)
+}
+
 /// Does the command that these words are, and gives the number that the process ends with.
 fn exit_status<
     R: Threads + Wait + Sync,
@@ -91,10 +99,9 @@ fn exit_status<
 ) -> u8
     requires meaning { (key text : List ℕ) → D.fits key text ↔ HonestEntry key text }
 {
-    let ended = top(
+    number_of(top(
         rt, alloc, words, &mut files, disk, gate, &mut input, &mut out, &mut notes,
-    );
-    status_of(&ended.status)
+    ))
 }
 
 fn main(rt: HostRuntime) -> ExitCode {
