@@ -11,7 +11,7 @@ ghost use Rattle.ir_parse_heads.specs.FunctionHeads.{LINKAGES, linkage_word, nam
 ghost use Rattle.ir_parse_parts.specs.declared.raw.Item.TheVariants as items;
 ghost use Rattle.ir_parse_parts.specs.Operands.{IsReg, global_named};
 ghost use Rattle.ir_parse_operands.specs.Adding.{pushed_at};
-ghost use Rattle.ir_parse_globals.specs.Variables.{KINDS, NAMES, is_constant, is_declared, with_align};
+ghost use Rattle.ir_parse_globals.specs.Variables.{KINDS, NAMES, is_constant, is_declared, variable, with_align};
 ghost use Rattle.ir_parse_globals.specs.VariablesAt.{variable_name_at, linkage_at, qualifiers_at, linked_at, value_at, comdat_name_at, in_comdat_at, aligned_at, marked_at, further_at, headed_at, tail_at, behind_kind_at, variable_line_at};
 
 use crate::initialisers::{initialiser_at, scalar_of, shape_at};
@@ -19,8 +19,8 @@ use ir_lex::{Token, TokenKind};
 use ir_parse_heads::{comes_qualifier, linkage_by, name_refusal, qualifier_word_at, with_linkage};
 use ir_parse_operands::push_item;
 use ir_parse_parts::{
-    Fault, Init, Item, Name, ReaderError, TokenFault, Tokens, Variable, alignment_at, attached_at,
-    done, expect, global_named, refusal,
+    Fault, Init, Item, Name, ReaderError, TokenFault, Tokens, Typed, Variable, alignment_at,
+    attached_at, done, expect, global_named, refusal,
 };
 use ir_tree::{Linkage, Reg};
 use std::alloc::{AllocError, Global};
@@ -280,6 +280,22 @@ fn headed_at(alloc: Global, tokens: &mut Tokens) -> Result<Headed, ReaderError>
     })
 }
 
+/// The variable that is headed so, with this shape, initialiser and alignment.
+fn variable_of(headed: Headed, typed: Typed, init: Option<Init>, align: Option<u64>) -> Variable
+    ensures { items.Variable result ≡ variable headed.name headed.linkage headed.constant typed init align }
+{
+    let line = headed.name.line();
+    Variable {
+        name: headed.name,
+        linkage: with_linkage(Linkage::External, headed.linkage),
+        constant: headed.constant,
+        typed,
+        init,
+        align,
+        line,
+    }
+}
+
 /// Reads what stands behind `global` or `constant`: the rest of the variable that is headed so.
 #[tactic(auto, unfolding(crate::specs::VariablesAt::behind_kind_at))]
 fn behind_kind_at(
@@ -297,16 +313,7 @@ fn behind_kind_at(
         tokens,
     )?;
     let align = tail_at(alloc, tokens)?;
-    let line = headed.name.line();
-    Ok(Variable {
-        name: headed.name,
-        linkage: with_linkage(Linkage::External, headed.linkage),
-        constant: headed.constant,
-        typed,
-        init,
-        align,
-        line,
-    })
+    Ok(variable_of(headed, typed, init, align))
 }
 
 /// Reads a variable, `@g = internal constant [2 x i8] c"a\00", align 1`, and adds it.
