@@ -29,8 +29,8 @@ use lto_sets::Bits;
 use slot_promote::into_promoted;
 use std::alloc::{AllocError, Global};
 
-// Each pass takes the function that the one before gave, and gives it on where it has nothing to do in it. It tells whether
-// it did anything, so that no turn or walk is made behind one that changed nothing.
+// Each pass takes the function that the one before gave, and gives it on where it has nothing to do in it. A walk and each
+// pass of a turn tell whether they did anything, so that no turn or walk is made behind one that changed nothing.
 
 /// Whether one of two steps may have changed the function.
 fn either(first: bool, second: bool) -> bool
