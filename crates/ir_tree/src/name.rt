@@ -10,7 +10,7 @@ use std::alloc::{AllocError, Global};
 
 /// How far an escape of a string has been read: none is open, its backslash, or that and a first
 /// hexadecimal digit.
-#[derive(Clone, Copy, Debug, PartialEq, Eq)]
+#[derive(Clone, Copy)]
 pub enum Escape {
     Closed,
     Slash,

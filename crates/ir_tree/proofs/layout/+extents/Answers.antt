@@ -1,4 +1,4 @@
-use Rattle.std.proofs.Common.{arith, ◌≡◌, ◌≤◌, ◌∙◌, ap, rules, if◌then◌else◌, max, subst}
+use Rattle.std.proofs.Common.{arith, ◌≡◌, ◌≤◌, ◌∙◌, ap, rules, if◌then◌else◌, max}
 use Rattle.ir_tree.specs.Forms.{forms_of}
 use Rattle.ir_tree.specs.Sizes.{all_nodes}
 use Rattle.ir_tree.specs.Layout as layout
