@@ -1,5 +1,5 @@
 -- What a mark of the greatest solution says of paths.
-use Rattle.std.proofs.Common.{◌≡◌, ◌≢◌, ℕ, ◌<◌, Bool, true, List, [], ◌∷◌, length, Option, Some, None, sym, subst, arith}
+use Rattle.std.proofs.Common.{◌≡◌, ℕ, ◌<◌, Bool, true, List, [], ◌∷◌, length, Option, Some, sym, subst, arith}
 use Rattle.ir_tree.specs.declared.function.Function.{Function}
 use Rattle.ir_tree.specs.Flow.{Among, Equations, AtEnds, Justified, IsJustified, KeepsInclusion, edges, Path}
 use Rattle.ir_flow.specs.Laws.{GreatestIsMarked, LeadsFrom, carried, MarksHoldOnPaths, AreOver, MarksHoldFromEntry}

@@ -1,8 +1,7 @@
 -- Rows over a flat list that grows.
-use Rattle.std.proofs.Common.{◌≡◌, ℕ, suc, subst, ◌+◌, ◌-◌, ◌<◌, ◌≤◌, List, [], ◌∷◌, ◌++◌, length, take, drop, map, get_or, refl, sym, ap, ◌∙◌, arith, length-append, length-drop}
-use Rattle.std.proofs.lemmas.List.{drop-append-le, take-append-le, drop_at, take_all, map_push, get_or-map, get_or_default, length_push}
+use Rattle.std.proofs.Common.{◌≡◌, ℕ, suc, subst, ◌-◌, ◌<◌, ◌≤◌, List, [], ◌∷◌, ◌++◌, length, take, drop, map, get_or, refl, sym, ap, ◌∙◌, arith, length-append, length-drop}
+use Rattle.std.proofs.lemmas.List.{drop-append-le, take-append-le, drop_at, take_all, map_push, get_or-map, get_or_default}
 use Rattle.std.proofs.lemmas.List.Elements.{All-head, All-tail, All-weaker, All-push, All-map}
-use Rattle.std.specs.List.{All}
 use Rattle.ir_flow.specs.declared.graph.Extent.{Extent}
 use Rattle.ir_flow.specs.Extents.{rows_of, AreWithin}
 use Rattle.ir_flow.specs.Graph.{row}

@@ -1,11 +1,11 @@
 -- Rows that are gathered by number are a function's predecessor edges.
-use Rattle.std.proofs.Common.{◌≡◌, ℕ, zero, suc, ◌+◌, ◌<◌, ◌≤◌, ◌^◌, List, [], ◌∷◌, ◌++◌, length, map, get_or, Some, refl, sym, ap, ◌∙◌, arith}
+use Rattle.std.proofs.Common.{◌≡◌, ℕ, zero, suc, ◌<◌, ◌^◌, List, [], ◌∷◌, ◌++◌, length, map, get_or, Some, refl, sym, ap, ◌∙◌, arith}
 use Rattle.std.specs.Prelude.{slice_get}
 use Rattle.std.proofs.lemmas.List.{get_or-map, length-map}
 use Rattle.std.proofs.lemmas.Option.{get_or_from_slice_get}
 use Rattle.ir_tree.specs.declared.block.Block.{Block}
 use Rattle.ir_tree.specs.declared.function.Function.{Function}
-use Rattle.ir_tree.specs.Flow.{successors, repeated, leading, leading_to, edges}
+use Rattle.ir_tree.specs.Flow.{successors, repeated, leading, leading_to}
 use Rattle.ir_flow.specs.Graph.{row, gathered, IsInverse}
 use Rattle.ir_flow.specs.OfFunction.{IsGraphOf}
 

@@ -1,6 +1,5 @@
 -- Lists that grow at the front, kept as links.
 use Rattle.std.specs.Prelude.{◌≡◌, ℕ, suc, ◌<◌, ◌≤◌, List, [], ◌∷◌, length, slice_get, slice_index_or, Option, Some, None}
-use Rattle.std.specs.List.{All}
 use Rattle.ir_flow.specs.declared.chains.Link.{Link}
 use Rattle.ir_flow.specs.Graph.{row}
 

@@ -1,5 +1,5 @@
 -- Laws of data flow that passes use.
-use Rattle.std.specs.Prelude.{◌≡◌, ◌≢◌, ◌↔◌, ℕ, ◌<◌, ◌⊎◌, Bool, true, false, List, [], ◌∷◌, length, slice_get, Option, Some, None}
+use Rattle.std.specs.Prelude.{◌≡◌, ◌≢◌, ◌↔◌, ℕ, ◌<◌, ◌⊎◌, Bool, true, false, List, [], ◌∷◌, length, slice_get, Some, None}
 use Rattle.ir_tree.specs.declared.function.Function.{Function}
 use Rattle.ir_tree.specs.Flow.{Among, Equations, IsGreatest, IsMarked, KeepsInclusion, edges, Path, Reachable, Dominates, Available, defined_in, holds, parameters, locals, room}
 use Rattle.ir_flow.specs.Dominating.{Dominance, AreDominators}

@@ -1,4 +1,4 @@
-use Rattle.std.proofs.Common.{◌≡◌, ◌∙◌, List, Bool, length, ap, sym}
+use Rattle.std.proofs.Common.{◌∙◌, List, Bool, length, ap, sym}
 use Rattle.lto_sets.specs.Sets.{meet_of}
 use Rattle.ir_flow.proofs.Narrowed.{length-meet}
 use Rattle.ir_flow.proofs.narrow.narrow.Goals as goal

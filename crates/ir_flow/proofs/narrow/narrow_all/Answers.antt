@@ -1,10 +1,9 @@
 use Rattle.std.proofs.Common.{◌≡◌, ◌∙◌, ◌<◌, ◌+◌, ◌++◌, ◌∷◌, [], ℕ, List, Bool, true, false, length, take, get_or, set, refl, ap, sym, subst, arith}
 use Rattle.std.proofs.lemmas.List.{take_more, get_or_default}
 use Rattle.lto_sets.specs.Sets.{contains, meet_of}
-use Rattle.ir_tree.specs.Flow.{holds}
 use Rattle.ir_flow.specs.declared.work_list.WorkList.{WorkList}
 use Rattle.ir_flow.specs.Narrowing.{row_at, IsNarrowed}
-use Rattle.ir_flow.proofs.Narrowed.{narrowed-none, narrowed-fixed, narrowed-same, narrowed-less}
+use Rattle.ir_flow.proofs.Narrowed.{narrowed-fixed, narrowed-same, narrowed-less}
 use Rattle.ir_flow.proofs.narrow.narrow_all.Goals as goal
 use Rattle.ir_flow.proofs.narrow.narrow_all.Goals.{then-not-has+then-narrow+in_ok-put, else-not-has, else-not-has-via-then-not-has+else-narrow, else-not-has-via-else-not-has}
 

@@ -1,4 +1,4 @@
-use Rattle.std.proofs.Common.{◌≡◌, ◌++◌, ◌∷◌, map, take}
+use Rattle.std.proofs.Common.{◌≡◌, ◌++◌, map, take}
 use Rattle.ir_flow.proofs.predecessors.push_targets.Given as goal
 
 abbrev pub invariant-loop-case : goal.invariant-loop-case

@@ -1,9 +1,7 @@
-use Rattle.std.proofs.Common.{◌≡◌, ◌∙◌, ◌<◌, ◌≤◌, ◌^◌, ℕ, List, Bool, length, ap, sym, subst, arith}
+use Rattle.std.proofs.Common.{ℕ, subst, arith}
 use Rattle.std.proofs.lemmas.Result.{IfOk-weaker}
-use Rattle.ir_tree.specs.Flow.{Among}
 use Rattle.ir_flow.specs.Graph.{IsInverse}
 use Rattle.ir_flow.specs.OfFunction.{IsReach}
-use Rattle.ir_flow.specs.Searching.{AreInside}
 use Rattle.ir_flow.proofs.Reaching.{reach, no-reach, turned-inside}
 use Rattle.ir_flow.proofs.reach.reachable.Goals as goal
 

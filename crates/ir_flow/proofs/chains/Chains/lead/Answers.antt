@@ -1,4 +1,4 @@
-use Rattle.std.proofs.Common.{◌≡◌, ◌∙◌, ◌<◌, ◌++◌, ◌∷◌, ◌+◌, ◌-◌, ℕ, List, length, drop, get_or, cond, nat_eq, ap, sym, arith}
+use Rattle.std.proofs.Common.{◌≡◌, ◌∙◌, ◌<◌, ◌++◌, ◌∷◌, ◌+◌, ◌-◌, ℕ, List, length, drop, get_or, cond, nat_eq, ap, arith}
 use Rattle.std.proofs.lemmas.List.{drop_more}
 use Rattle.ir_tree.specs.Flow.{repeated}
 use Rattle.ir_flow.proofs.ChainLaws.{chains-same, repeated-more}

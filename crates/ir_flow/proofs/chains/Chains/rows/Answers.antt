@@ -1,4 +1,4 @@
-use Rattle.std.proofs.Common.{◌≡◌, ◌∙◌, ◌<◌, ◌+◌, ◌++◌, ◌∷◌, [], ℕ, List, length, get_or, None, ap, sym, subst, arith}
+use Rattle.std.proofs.Common.{◌≡◌, ◌∙◌, ◌<◌, ◌+◌, ◌++◌, ℕ, List, length, get_or, None, ap, sym, subst, arith}
 use Rattle.ir_flow.specs.Chained.{AreRows, IsChain}
 use Rattle.ir_flow.proofs.ChainLaws.{rows-more}
 use Rattle.ir_flow.proofs.chains.Chains.rows.Goals as goal

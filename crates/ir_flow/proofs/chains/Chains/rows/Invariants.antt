@@ -1,4 +1,4 @@
-use Rattle.std.proofs.Common.{◌≡◌, ℕ, List, length}
+use Rattle.std.proofs.Common.{ℕ, List}
 use Rattle.ir_flow.specs.Chained.{AreChains, AreRows}
 use Rattle.ir_flow.proofs.chains.Chains.rows.Given as goal
 

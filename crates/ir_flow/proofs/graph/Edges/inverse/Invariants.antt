@@ -1,4 +1,4 @@
-use Rattle.std.proofs.Common.{◌≡◌, ℕ, length, drop}
+use Rattle.std.proofs.Common.{◌≡◌, length, drop}
 use Rattle.ir_flow.specs.Chained.{AreChains}
 use Rattle.ir_flow.specs.Graph.{gathered}
 use Rattle.ir_flow.proofs.graph.Edges.inverse.Given as goal

@@ -1,4 +1,4 @@
-use Rattle.std.proofs.Common.{◌≡◌, ◌∙◌, ◌<◌, ◌≤◌, ◌++◌, ◌∷◌, [], ℕ, List, length, map, take, get_or, ap, sym, subst, arith, ◌+◌}
+use Rattle.std.proofs.Common.{◌≡◌, ◌∙◌, ◌<◌, ◌++◌, ◌∷◌, [], ℕ, List, length, map, take, get_or, ap, sym, subst, arith}
 use Rattle.std.proofs.lemmas.List.{get_or_read, map_more, take_all, length-map}
 use Rattle.ir_flow.specs.declared.graph.Extent.{Extent}
 use Rattle.ir_flow.specs.Extents.{AreWithin, rows_of}

@@ -1,5 +1,4 @@
-use Rattle.std.proofs.Common.{◌≡◌, ◌<◌, ℕ, List, length, map, take, get_or}
-use Rattle.ir_flow.specs.Extents.{AreWithin}
+use Rattle.std.proofs.Common.{◌≡◌, map, take, get_or}
 use Rattle.ir_flow.specs.declared.graph.Extent.{Extent}
 use Rattle.ir_flow.proofs.graph.Edges.picked.Given as goal
 

@@ -1,4 +1,4 @@
-use Rattle.std.proofs.Common.{◌≡◌, ◌∙◌, ◌++◌, ◌∷◌, [], ℕ, List, length, ap, sym, arith, length-append, ◌+◌}
+use Rattle.std.proofs.Common.{◌≡◌, ◌∙◌, ◌++◌, ◌∷◌, [], ℕ, List, length, ap, arith}
 use Rattle.ir_flow.specs.declared.graph.Extent.{Extent}
 use Rattle.ir_flow.specs.Extents.{rows_of}
 use Rattle.ir_flow.proofs.Extended.{rows-push}
