@@ -8,6 +8,7 @@
 //! [`Dominators`] answers dominance by paths (`specs/Dominance`); [`greatest`] gives the greatest solution of any
 //! lawful equations ([`Equations`]), whose marks hold on every path; and a local that one block defines is available
 //! exactly where that block dominates ([`available_by_dominance`]), so that what is available need not be kept as sets.
+//! A [`MarkedValue`] says of a function, wherever it is handed to, that all its blocks are reached.
 //!
 //! **Cost.** Edges and reached blocks take time and memory linear in blocks, edges and the greatest number of a block.
 //! Dominators take two rounds over the edges where control flow is reducible, each meeting of two blocks a logarithm of
@@ -21,6 +22,7 @@ mod chains;
 mod dominators;
 mod graph;
 mod laws;
+mod marked_value;
 mod narrow;
 mod predecessors;
 mod reach;
@@ -36,6 +38,7 @@ pub use laws::{
     all_are_available, available_by_dominance, available_is_passed, greatest_is_marked,
     marks_hold_from_entry, marks_hold_on_paths, one_greatest,
 };
+pub use marked_value::MarkedValue;
 pub use predecessors::{preds, push_targets};
 pub use reach::reachable;
 pub use solution::greatest;
