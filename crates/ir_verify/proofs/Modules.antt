@@ -1,13 +1,13 @@
 -- Going over the globals of a module, one after another.
-use Rattle.std.proofs.Common.{◌≡◌, ℕ, zero, suc, ◌+◌, ◌<◌, List, [], ◌∷◌, refl, sym, ap, subst, ◌∙◌, arith, inl, inr, ◌⊎◌}
-use Rattle.std.specs.Prelude.{slice_get, length, All, MatchOption, Option, Some, None, Result, Ok, Err, IfOk}
+use Rattle.std.proofs.Common.{◌≡◌, ℕ, zero, suc, ◌+◌, ◌<◌, Bool, true, List, [], ◌∷◌, ◌++◌, refl, sym, ap, subst, ◌∙◌, arith, inl, inr, ◌⊎◌}
+use Rattle.std.specs.Prelude.{slice_get, length, All, MatchOption, Option, Some, None}
 use Rattle.std.specs.List.{AllZip}
 use Rattle.std.proofs.lemmas.Bool.{cases_lt}
 use Rattle.ir_tree.specs.declared.function.Function.{Function}
 use Rattle.ir_tree.specs.declared.function.Variable.{Variable}
 use Rattle.ir_tree.specs.declared.module.GlobalValue.{GlobalValue}
 use Rattle.ir_tree.specs.declared.module.GlobalValue.TheVariants as global
-use Rattle.ir_tree.specs.Wholes.{GlobalSound, GlobalBreaks}
+use Rattle.ir_tree.specs.Wholes.{AreReached, GlobalReached, GlobalSound, GlobalBreaks}
 use Rattle.ir_tree.specs.Fits.{FitsShape}
 use Rattle.ir_tree.specs.declared.rule.Rule.{Rule}
 use Rattle.ir_tree.specs.declared.rule.Rule.TheVariants.{TypeMismatch}
@@ -105,9 +105,24 @@ past_other v ls line k old new on never p = record {
     some_rule : (r : Rule) → ◌≡◌ {A = Option Rule} (Some TypeMismatch) (Some r) → r ≡ TypeMismatch
     some_rule r e = cc
 
-pub variable_at : {E : Type 0} (r : Result (Option VerifyFault) E) (g : GlobalValue) (v : Variable) (ls : List ℕ) (k : ℕ) (old : Option VerifyFault) → g ≡ global.Variable v → IfOk r (λ new. (i : ℕ) → GlobalPast (global.Variable v) ls i old new) → IfOk r (λ new. GlobalPast g ls k old new)
-variable_at (Ok new) g v ls k old e p = subst (λ (z : GlobalValue). GlobalPast z ls k old new) (sym e) (p k)
-variable_at (Err x) g v ls k old e p = tt
+-- ---- marks of what is reached
+
+-- a mark among these and one more is one of these, or the last one
+marked_at : (marks : List Bool) (m : Bool) (k : ℕ) → slice_get (marks ++ m ∷ []) k ≡ Some true → (slice_get marks k ≡ Some true) ⊎ ((k ≡ length marks) × (m ≡ true))
+marked_at [] m zero e = inr (refl, some_is m true e)
+marked_at [] m (suc k) e = absurd (cc e)
+marked_at (x ∷ marks) m zero e = inl e
+marked_at (x ∷ marks) m (suc k) e = elim (marked_at marks m k e) [ inl a ↦ inl a | inr p ↦ inr (ap suc p.0, p.1) ]
+
+pub counted : (marks : List Bool) (m : Bool) → length (marks ++ m ∷ []) ≡ suc (length marks)
+counted [] m = refl
+counted (x ∷ marks) m = ap suc (counted marks m)
+
+pub mark_pushed : (gs : List GlobalValue) (marks : List Bool) (m : Bool) (g : GlobalValue) → AreReached gs marks → slice_get gs (length marks) ≡ Some g → (m ≡ true → GlobalReached g) → AreReached gs (marks ++ m ∷ [])
+mark_pushed gs marks m g before at now k h got marked = elim (marked_at marks m k marked) [
+  | inl old ↦ before k h got old
+  | inr last ↦ subst GlobalReached (some_is g h (sym at ∙ ap (slice_get gs) (sym last.0) ∙ got)) (now last.1)
+]
 
 -- ---- what was found over all globals
 

@@ -2,13 +2,14 @@
 ghost use Rattle.std.specs.Prelude.{◌≡◌, ◌+◌, ◌<◌, length, IfOk, Some, slice_get};
 ghost use Rattle.ir_tree.specs.Formed.{Formed};
 ghost use Rattle.ir_tree.specs.Items.{items};
+ghost use Rattle.ir_verify.specs.Known.{IsKnown};
 ghost use Rattle.ir_verify.specs.Orders.{IsPast, Went};
 ghost use Rattle.ir_verify.specs.Standing.{Stands};
 ghost use Rattle.ir_verify.specs.Walks.{IsWalk};
 
 use crate::fault::{VerifyFault, noted};
 use crate::items::{end_broken, line_broken, phi_broken};
-use crate::known::{Known, learned};
+use crate::known::Known;
 use ir_tree::{Block, Function};
 use std::alloc::{AllocError, Global};
 
@@ -105,26 +106,25 @@ impl Walk<'_> {
     }
 }
 
-/// The first fault of a function, which goes by this number and whose items stand on these lines, and of what was found before: on
-/// the least line, and there of the least rule.
-///
-/// Beside want of memory, a function of `2^32` blocks or more is refused as too large for it. Time is near linear in the function
-/// where control flow is reducible, memory linear.
+/// The first fault of a function of which this is known, which goes by this number and whose items stand on these lines, and of what
+/// was found before: on the least line, and there of the least rule. Time is linear in the function, but for the sorting of entries
+/// and cases.
 pub fn function_fault(
     alloc: Global,
     function: &Function,
+    known: &Known,
     lines: &[u32],
     number: u32,
     found: Option<VerifyFault>,
 ) -> Result<Option<VerifyFault>, AllocError>
     requires formed { Formed function.now }
     requires lined { length lines.now ≡ length (items function.now) }
+    requires known { IsKnown function.now known.now }
     ensures { IfOk result (λ new. IsPast function.now lines.now number found new) }
 {
-    let known = learned(alloc, function)?;
     let walk = Walk {
         function,
-        known: &known,
+        known,
         lines,
         number,
     };

@@ -1,5 +1,8 @@
 //! What is known of a function before its items are checked.
-ghost use Rattle.std.specs.Prelude.{IfOk};
+ghost use Rattle.std.specs.Prelude.{◌≡◌, true, IfOk};
+ghost use Rattle.ir_flow.specs.Dominating.{AreDominators, dominance};
+ghost use Rattle.ir_tree.specs.Flow.{AllReached};
+ghost use Rattle.ir_tree.specs.declared.function.Function.{Function};
 ghost use Rattle.ir_verify.specs.Known.{IsKnown};
 
 use crate::definitions::{Definition, definitions, places};
@@ -32,4 +35,19 @@ pub fn learned(alloc: Global, function: &Function) -> Result<Known, AllocError>
         preds,
         dominators,
     })
+}
+
+/// Whether all blocks are reached of a function that has these dominators.
+pub(crate) fn all_reached(dominators: &Dominators) -> bool
+    ensures { result ≡ true → (f : Function) → AreDominators f (dominance dominators.now) → AllReached f }
+{
+    let Ok(count) = u32::try_from(dominators.len()) else {
+        return false;
+    };
+    for block in 0..count {
+        if !dominators.reaches(block) {
+            return false;
+        }
+    }
+    true
 }

@@ -9,7 +9,7 @@
 //!
 //! **Promise.** [`verify`] answers with the sound module, or with its least fault ([`module_fault`], `specs/Modules`):
 //! no fault is told exactly where each function keeps all eight rules (`specs/Rules` of `ir_tree`) and each initialiser
-//! fits.
+//! fits. With the module goes a mark for each function of which all blocks are reached, as its dominators tell.
 //!
 //! **Cost.** Tables go by the numbers of locals and blocks; a phi is checked in the time of sorting its entries, a
 //! switch in that of its cases, any other item in that of its operands.

@@ -1,23 +1,25 @@
 //! The verifier of whole modules.
 ghost use Rattle.std.specs.Prelude.{◌≡◌, All, IfOk, OnOk, IsErrOf};
-ghost use Rattle.ir_tree.specs.Wholes.{GlobalSound, IsVerified};
+ghost use Rattle.ir_tree.specs.Wholes.{AreReached, GlobalSound, IsVerified};
 ghost use Rattle.ir_verify.specs.Modules.{IsLeastFault};
 ghost use Rattle.ir_tree.specs.declared.failure.Failure.TheVariants.{Fault};
 ghost use Rattle.ir_verify.specs.declared.fault.VerifyFault.{VerifyFault};
 
 use crate::fault::VerifyError;
-use crate::globals::module_fault;
-use ir_tree::{Parsed, Verified};
+use crate::globals::module_fault_and_reach;
+use ir_tree::{Parsed, Rows, Verified};
 use std::alloc::Global;
 
-/// Refuses a module that has a fault.
-fn refuse_fault(alloc: Global, parsed: &Parsed) -> Result<(), VerifyError>
+/// Refuses a module that has a fault; else it gives a mark for each global of which all blocks are reached.
+fn refuse_fault(alloc: Global, parsed: &Parsed) -> Result<Rows<bool>, VerifyError>
     ensures sound { OnOk result (All GlobalSound parsed.now.0.globals) }
+    ensures reached { IfOk result (λ marks. AreReached parsed.now.0.globals marks) }
     ensures fault { (fault : VerifyFault) → IsErrOf result (Fault fault) → IsLeastFault parsed.now.0.globals parsed.now.1 fault }
 {
-    match module_fault(alloc, parsed)? {
+    let (fault, marks) = module_fault_and_reach(alloc, parsed)?;
+    match fault {
         Some(fault) => Err(VerifyError::Fault(fault)),
-        None => Ok(()),
+        None => Ok(marks),
     }
 }
 
@@ -26,13 +28,13 @@ fn refuse_fault(alloc: Global, parsed: &Parsed) -> Result<(), VerifyError>
 ///
 /// Where memory runs out that is the answer; a module of `2^32` globals or more, or with a function of `2^32` blocks or more, is
 /// refused as too large for it. Time is near linear in the module where control flow is reducible, memory linear in its largest
-/// function. The module is moved and not copied.
+/// function. The module is moved and not copied, and of which functions all blocks are reached is kept with it.
 pub fn verify(alloc: Global, parsed: Parsed) -> Result<Verified, VerifyError>
     ensures same { IfOk result (λ verified. verified ≡ parsed.0) }
     ensures sound { IfOk result (λ verified. IsVerified parsed.0) }
     ensures fault { (fault : VerifyFault) → IsErrOf result (Fault fault) → IsLeastFault parsed.0.globals parsed.1 fault }
 {
-    refuse_fault(alloc, &parsed)?;
+    let marks = refuse_fault(alloc, &parsed)?;
     let (module, _lines) = parsed.into_parts();
-    Ok(Verified::of(module))
+    Ok(Verified::of(module, marks))
 }

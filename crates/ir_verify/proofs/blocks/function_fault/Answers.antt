@@ -34,4 +34,4 @@ returns c =
     went_all c.args.function.now c.args.lines.now c.args.number c.loop-place.at c.args.found c.loop-place.best c.requires.formed (onward_all c.args.function.now c.loop-place.place c.loop-place.at past c.loop-place.invariant.onward) c.loop-place.invariant.went
 
 pub block_fault-requires-clause-walk : goal.block_fault-requires-clause-walk
-block_fault-requires-clause-walk c = record { known = c.in_ok-known.ensures; formed = c.requires.formed; lined = c.requires.lined }
+block_fault-requires-clause-walk c = record { known = c.requires.known; formed = c.requires.formed; lined = c.requires.lined }
