@@ -3,3 +3,14 @@ pub mod Entries
 pub mod Indexed
 pub mod Tables
 pub mod Numbered
+pub mod Reach
+pub mod Walking
+pub mod Rows
+pub mod Best
+pub mod Liveness
+pub mod LiveMarks
+pub mod Suffixes
+pub mod Finals
+pub mod Noted
+pub mod Promotions
+pub mod Brought

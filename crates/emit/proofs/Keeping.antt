@@ -10,9 +10,9 @@ use Rattle.std.specs.List.{All, Contains, list_any}
 use Rattle.std.specs.Str.{bytes_eq}
 use Rattle.indexmap.specs.IndexSet.{insert_key}
 use Rattle.lto_sets.specs.Sets.{contains}
-use Rattle.liveness.specs.Reach.{IsReached, leads, starts}
-use Rattle.liveness.specs.Rows.{AreBelow, row}
-use Rattle.liveness.specs.Walking.{IsReach}
+use Rattle.combined_index.specs.Reach.{IsReached, leads, starts}
+use Rattle.combined_index.specs.Rows.{AreBelow, row}
+use Rattle.combined_index.specs.Walking.{IsReach}
 use Rattle.lto_task.specs.declared.piece.Piece.{Piece}
 use Rattle.merge_meaning.specs.ByName.{has}
 use Rattle.merge_meaning.proofs.Standing.{alone, in_joined, joined_from}

@@ -9,7 +9,7 @@ use Rattle.std.specs.List.{Contains, list_any}
 use Rattle.std.specs.Str.{bytes_eq}
 use Rattle.indexmap.specs.IndexSet.{insert_key}
 use Rattle.ir_tree.specs.Formed.{Distinct}
-use Rattle.liveness.specs.Rows.{row}
+use Rattle.combined_index.specs.Rows.{row}
 use Rattle.ir_summary.specs.Once.{texts}
 use Rattle.emit.specs.Graphs.{AreStarts, Edge, IsNumber, Linked, edge}
 

@@ -5,7 +5,7 @@ use Rattle.std.specs.List.{list_any}
 use Rattle.std.specs.Str.{bytes_eq}
 use Rattle.ir_tree.specs.Formed.{Distinct}
 use Rattle.lto_task.specs.declared.piece.Piece.{Piece}
-use Rattle.liveness.specs.Rows.{row}
+use Rattle.combined_index.specs.Rows.{row}
 use Rattle.ir_summary.specs.Once.{texts}
 
 -- ---- references

@@ -5,9 +5,9 @@ ghost use Rattle.lto_task.specs.declared.piece.Piece.{Piece};
 ghost use Rattle.emit.specs.Graphs.{IsGraph, Linked, edges, is_key, is_marked};
 
 use crate::graph::Graph;
+use combined_index::reached;
 use indexmap::IndexSet;
 use ir_tree::{Rows, Text};
-use liveness::reached;
 use lto_sets::Bits;
 use lto_task::Piece;
 use std::alloc::{AllocError, Global};

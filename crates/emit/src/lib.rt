@@ -6,7 +6,7 @@
 //! of one name stay or go together, in the order in which they are given. The text is joined from pieces, which say of
 //! each definition its name, its references and its text: no text is looked into but for how it begins, which tells a
 //! function from a variable. What no other module refers to may be dropped before that, module by module ([`strip`],
-//! `specs/Strips`): the text is the same. Below stand `lto_task`, for pieces, `liveness`, whose walk finds what is
+//! `specs/Strips`): the text is the same. Below stand `lto_task`, for pieces, `combined_index`, whose walk finds what is
 //! reached, `indexmap`, for names, `ir_print`, for the text of a module, and `merge_meaning`, whose words the laws use.
 //!
 //! **Promise.** [`emit`] joins the text of the definition (`specs/Joins`), and of the pieces of definitions that is the

@@ -9,7 +9,7 @@ use Rattle.ir_tree.specs.declared.module.GlobalValue.{GlobalValue}
 use Rattle.ir_tree.specs.declared.module.GlobalValue.TheVariants as global
 use Rattle.ir_tree.specs.declared.operand.Symbol.{Symbol}
 use Rattle.ir_meaning.specs.Programs.{symbol_of}
-use Rattle.liveness.proofs.Sources.{find_one}
+use Rattle.combined_index.proofs.Sources.{find_one}
 use Rattle.lto_task.specs.Declarations.{declaration_of}
 use Rattle.merge_meaning.specs.Hosts.{getchar, putchar}
 use Rattle.merge_meaning.specs.Linkable.{IsOutside}

@@ -8,7 +8,7 @@ use Rattle.std.specs.Str.{bytes_eq}
 use Rattle.ir_tree.specs.declared.module.GlobalValue.{GlobalValue}
 use Rattle.ir_tree.specs.declared.operand.Symbol.{Symbol}
 use Rattle.ir_meaning.specs.Programs.{symbol_of}
-use Rattle.promote_rename.specs.Finals.{final_name}
+use Rattle.combined_index.specs.Finals.{final_name}
 use Rattle.merge_meaning.specs.ByName.{IsInOrder}
 use Rattle.merge_meaning.proofs.References.{all_from}
 use Rattle.importer.specs.Brought.{brought, joined, value_of}

@@ -4,7 +4,7 @@ use Rattle.std.specs.Prelude.{filter_map}
 use Rattle.std.proofs.lemmas.Grind.{take_at_read}
 use Rattle.std.proofs.lemmas.List.Elements.{filter_map-append}
 use Rattle.ir_tree.specs.declared.operand.Symbol.{Symbol}
-use Rattle.promote_rename.specs.Finals.{final_name}
+use Rattle.combined_index.specs.Finals.{final_name}
 use Rattle.importer.specs.Brought.{names_of}
 use Rattle.importer.specs.Tables.{option_list}
 use Rattle.importer.proofs.Tabled.{one_given}

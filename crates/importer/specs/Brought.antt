@@ -5,7 +5,7 @@ use Rattle.std.specs.Str.{bytes_eq}
 use Rattle.ir_tree.specs.declared.module.GlobalValue.{GlobalValue}
 use Rattle.ir_tree.specs.declared.operand.Symbol.{Symbol}
 use Rattle.ir_meaning.specs.Programs.{symbol_of}
-use Rattle.promote_rename.specs.Finals.{final_name}
+use Rattle.combined_index.specs.Finals.{final_name}
 
 abbrev pub joined : List (List GlobalValue) → List GlobalValue
 joined = flat_map (λ gs. gs)

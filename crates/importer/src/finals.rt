@@ -1,12 +1,12 @@
 //! Final names of symbols by their numbers.
 ghost use Rattle.std.specs.Prelude.{◌≡◌, ◌++◌, OnOk, option_copied, option_map};
-ghost use Rattle.promote_rename.specs.Finals.{final_name};
+ghost use Rattle.combined_index.specs.Finals.{final_name};
 ghost use Rattle.importer.specs.Brought.{names_of};
 ghost use Rattle.importer.specs.Tables.{option_list};
 
 use crate::setting::symbol_at;
+use combined_index::final_name;
 use ir_tree::{Rows, Symbol, Text};
-use promote_rename::final_name;
 use std::alloc::{AllocError, Global};
 
 /// Adds a symbol's final name, if there is one.

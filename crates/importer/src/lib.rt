@@ -1,7 +1,7 @@
 //! The tasks of a link: of each module all that its back end reads.
 //!
 //! What a module imports was decided by the index (`thin_link`): symbols, whose values stand in the parts of the modules under
-//! final names (`merge_meaning`, `promote_rename`). [`tasks_of`] finds these by name and puts them into the module's task as they
+//! final names (`merge_meaning`, `combined_index`). [`tasks_of`] finds these by name and puts them into the module's task as they
 //! stand there, beside the module's own part. Behind both stand declarations of what they refer to and lack, as the link has it or
 //! the system does. With them go the exported names that the part defines, and the final names of the locals that other modules
 //! import from it (`specs/Tasks.antt`).

@@ -7,8 +7,8 @@ ghost use Rattle.thin_link.specs.Views.{rows};
 ghost use Rattle.importer.specs.Brought.{brought, joined, value_named, value_of};
 ghost use Rattle.importer.specs.Tables.{option_list, value_in, values};
 
+use combined_index::final_name;
 use ir_tree::{GlobalValue, Rows, Symbol, Text};
-use promote_rename::final_name;
 use std::alloc::{AllocError, Global};
 use std::collections::{HashMap, HashSet};
 

@@ -12,8 +12,8 @@ use Rattle.ir_tree.specs.declared.operand.Symbol.{Symbol}
 use Rattle.merge_meaning.specs.Globals.{global_under, named_by}
 use Rattle.merge_meaning.specs.Lives.{final_symbol, is_live, part_of, parts, parts_from}
 use Rattle.merge_meaning.specs.Merged.{is_own, local_to, prevails, symbol_in}
-use Rattle.promote_rename.specs.Finals.{final_name, suffix_at}
-use Rattle.promote_rename.specs.Suffixes.{suffix_of}
+use Rattle.combined_index.specs.Finals.{final_name, suffix_at}
+use Rattle.combined_index.specs.Suffixes.{suffix_of}
 use Rattle.ir_round_trip.specs.Laws.{ReadIsNumbered, ReadIsWithin}
 use Rattle.ir_round_trip.specs.Numbered.{LocalsNumbered, StringsAreBytes}
 use Rattle.ir_round_trip.specs.Renamed.{IsReadOf, NamesKeepSpelling, PartsAreSpelled, ReadIsSpelled, SpelledIsTold, SuffixedIsWritable, ValueSpelled}

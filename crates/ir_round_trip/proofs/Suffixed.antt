@@ -9,7 +9,7 @@ use Rattle.ir_lex.specs.TokenKinds.{begins_with, name_kind}
 use Rattle.ir_lex.specs.Quotes.{has_zero}
 use Rattle.ir_lex.specs.declared.token_kind.TokenKind.TheVariants as kinds
 use Rattle.ir_tree.specs.Names.{AllBytes}
-use Rattle.promote_rename.specs.Suffixes.{leading_number}
+use Rattle.combined_index.specs.Suffixes.{leading_number}
 use Rattle.sha1.specs.Sha1.{sha1}
 use Rattle.ir_round_trip.specs.Classes.{IsOrdinary}
 use Rattle.ir_round_trip.specs.Renamed.{SuffixedIsWritable}

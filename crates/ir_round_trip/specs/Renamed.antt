@@ -11,7 +11,7 @@ use Rattle.lto_task.specs.Declarations.{declaration_of}
 use Rattle.lto_task.specs.Tasks.{module_of}
 use Rattle.merge_meaning.specs.Globals.{global_under, named_by}
 use Rattle.merge_meaning.specs.Lives.{parts}
-use Rattle.promote_rename.specs.Suffixes.{suffix_of}
+use Rattle.combined_index.specs.Suffixes.{suffix_of}
 use Rattle.ir_round_trip.specs.Numbered.{LocalsNumbered, StringsAreBytes}
 use Rattle.ir_round_trip.specs.OneText.{ModuleSpelled}
 use Rattle.ir_round_trip.specs.Tokens.{IsWritable}

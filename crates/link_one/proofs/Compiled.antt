@@ -13,7 +13,7 @@ use Rattle.ir_meaning.specs.Rename.{then_names}
 use Rattle.ir_meaning.proofs.Runs.Transitive.{chained_under}
 use Rattle.ir_meaning.specs.Programs.{program_of}
 use Rattle.combined_index.specs.Combined.{Combined}
-use Rattle.promote_rename.specs.Finals.{NoneTaken, final_names}
+use Rattle.combined_index.specs.Finals.{NoneTaken, final_names}
 use Rattle.merge_meaning.specs.Laws.{AllWhole}
 use Rattle.merge_meaning.specs.Linked.{AreEmitted, AreFinal, Improves, IsClosed, IsReordering, back_names, back_of, emission}
 use Rattle.merge_meaning.specs.Merged.{merged}

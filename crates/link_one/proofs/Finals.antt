@@ -3,7 +3,7 @@ use Rattle.std.proofs.Common.{◌≡◌, ◌∙◌, ◌⊎◌, inl, inr, ◌<◌
 use Rattle.std.proofs.lemmas.Bool.{cases_order, false≢true}
 use Rattle.ir_tree.specs.declared.operand.Symbol.{Symbol}
 use Rattle.lto_sets.specs.Sets.{contains as is_member}
-use Rattle.promote_rename.specs.Finals.{NoneTaken, final_name, final_names, name_where, suffix_at}
+use Rattle.combined_index.specs.Finals.{NoneTaken, final_name, final_names, name_where, suffix_at}
 use Rattle.merge_meaning.specs.Linked.{AreFinal}
 use Rattle.merge_meaning.specs.Merged.{merged_globals}
 use Rattle.merge_meaning.proofs.Emission.{emission_emitted}

@@ -19,7 +19,7 @@ use Rattle.combined_index.specs.Indexed.{named, symbol_at}
 use Rattle.combined_index.specs.declared.definition.Definition.{Definition}
 use Rattle.ir_meaning.specs.Programs.{symbol_of}
 use Rattle.merge_meaning.proofs.Standing.{in_joined, map_from}
-use Rattle.liveness.proofs.Sources.{find_one, joined}
+use Rattle.combined_index.proofs.Sources.{find_one, joined}
 use Rattle.merge_meaning.specs.Laws.{AllWhole, IsGivenBy}
 use Rattle.merge_meaning.specs.Merged.{symbol_in}
 use Rattle.merge_meaning.proofs.Looked.{some_is}

@@ -16,7 +16,7 @@ use Rattle.importer.specs.Brought.{joined}
 use Rattle.importer.proofs.Members.{Stands, all_joined, all_of, in_front, of_each, zip_append}
 use Rattle.link_one.specs.MeaningLaws.{LiveIsKnown}
 use Rattle.combined_index.specs.Combined.{Combined}
-use Rattle.promote_rename.specs.Finals.{NoneTaken, final_names}
+use Rattle.combined_index.specs.Finals.{NoneTaken, final_names}
 use Rattle.thin_link.specs.Linking.{IsThinLink}
 use Rattle.link_one.specs.Linked.{AreUnits}
 use Rattle.link_one.proofs.Bettering.{CanImprove, bounded, improved_symbols, one_value, themselves}

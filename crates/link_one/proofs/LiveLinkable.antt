@@ -16,8 +16,8 @@ use Rattle.ir_meaning.specs.Refine.{Naming}
 use Rattle.ir_meaning.specs.Programs.{Body, Definition, Storage, defined, definition_of, is_declared, shared, symbol_of}
 use Rattle.combined_index.specs.Combined.{Combined}
 use Rattle.combined_index.specs.declared.definition.Definition.{Definition as Listed}
-use Rattle.liveness.proofs.Sources.{any_one}
-use Rattle.promote_rename.specs.Finals.{NoneTaken, final_names}
+use Rattle.combined_index.proofs.Sources.{any_one}
+use Rattle.combined_index.specs.Finals.{NoneTaken, final_names}
 use Rattle.merge_meaning.specs.Globals.{global_under, named_by}
 use Rattle.merge_meaning.specs.Laws.{AllWhole}
 use Rattle.merge_meaning.specs.Linked.{AreEmitted, DefinitionNames, IsDefinition, IsUnder}

@@ -17,9 +17,9 @@ use Rattle.ir_meaning.specs.Programs.{shared}
 use Rattle.ir_meaning.proofs.Numbered.{programs_formed}
 use Rattle.combined_index.specs.Combined.{Combined, is_plain, number_of, prevailing_of}
 use Rattle.combined_index.specs.declared.definition.Definition.{Definition as Listed}
-use Rattle.liveness.specs.Reach.{starts}
-use Rattle.liveness.specs.Liveness.{IsDefined}
-use Rattle.liveness.proofs.Sources.{any_one, first_at}
+use Rattle.combined_index.specs.Reach.{starts}
+use Rattle.combined_index.specs.Liveness.{IsDefined}
+use Rattle.combined_index.proofs.Sources.{any_one, first_at}
 use Rattle.merge_meaning.specs.Linked.{Improves}
 use Rattle.merge_meaning.specs.Merged.{merged, merged_globals}
 use Rattle.merge_meaning.proofs.Emitted.{linked_merged}

@@ -24,10 +24,10 @@ use Rattle.combined_index.specs.Combined.{Combined, prevailing_of}
 use Rattle.combined_index.specs.Entries.{Entry}
 use Rattle.combined_index.specs.Entries as entries
 use Rattle.combined_index.specs.declared.definition.Definition.{Definition as Listed}
-use Rattle.liveness.specs.Reach.{leads}
-use Rattle.liveness.specs.Liveness.{IsLive, is_host}
-use Rattle.liveness.proofs.Lacking.{referred}
-use Rattle.liveness.proofs.Sources.{any_one}
+use Rattle.combined_index.specs.Reach.{leads}
+use Rattle.combined_index.specs.Liveness.{IsLive, is_host}
+use Rattle.combined_index.proofs.Lacking.{referred}
+use Rattle.combined_index.proofs.Sources.{any_one}
 use Rattle.merge_meaning.proofs.Standing.{filter_from, first, first_or_later, joined_from, later, map_from, nothing}
 use Rattle.merge_meaning.specs.Laws.{AllWhole, IsGivenBy}
 use Rattle.merge_meaning.specs.Merged.{is_own, merged_from, merged_globals, prevails_as, standing_of, symbol_in}

@@ -21,11 +21,11 @@ use Rattle.combined_index.specs.Combined.{prevailing_of}
 use Rattle.combined_index.specs.Entries.{is_module}
 use Rattle.combined_index.specs.Indexed.{symbol_at}
 use Rattle.combined_index.specs.declared.definition.Definition.{Definition as Listed}
-use Rattle.liveness.proofs.Sources.{find_one}
-use Rattle.liveness.specs.Liveness.{refs, refs_of}
+use Rattle.combined_index.proofs.Sources.{find_one}
+use Rattle.combined_index.specs.Liveness.{refs, refs_of}
 use Rattle.lto_task.specs.declared.piece.Piece.{Piece}
-use Rattle.promote_rename.specs.Finals.{final_name}
-use Rattle.promote_rename.specs.Promotions.{ArePromoted, IsPromoted}
+use Rattle.combined_index.specs.Finals.{final_name}
+use Rattle.combined_index.specs.Promotions.{ArePromoted, IsPromoted}
 use Rattle.merge_meaning.specs.Globals.{global_under, named_by}
 use Rattle.merge_meaning.specs.Laws.{AllWhole}
 use Rattle.merge_meaning.specs.Lives.{final_symbol, is_live, parts}

@@ -20,8 +20,8 @@ use Rattle.symbol_resolve.specs.Mentions.{function_standing, mentions, variable_
 use Rattle.symbol_resolve.specs.Prevailing.{prevailing}
 use Rattle.combined_index.specs.Combined.{Combined}
 use Rattle.combined_index.specs.Indexed.{symbol_at}
-use Rattle.liveness.proofs.Sources.{any_one}
-use Rattle.liveness.specs.Liveness.{refs}
+use Rattle.combined_index.proofs.Sources.{any_one}
+use Rattle.combined_index.specs.Liveness.{refs}
 use Rattle.merge_meaning.specs.Globals.{global_under, named_by}
 use Rattle.merge_meaning.specs.Laws.{AllWhole, IsGivenBy, taken_in}
 use Rattle.merge_meaning.specs.Linked.{DefinitionNames}

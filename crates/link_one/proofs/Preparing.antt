@@ -5,8 +5,8 @@ use Rattle.ir_tree.specs.Wholes.{IsVerified}
 use Rattle.ir_tree.specs.declared.module.GlobalValue.{GlobalValue}
 use Rattle.ir_tree.specs.declared.module.Module.{Module}
 use Rattle.combined_index.specs.Combined.{Combined}
-use Rattle.promote_rename.specs.Finals.{NoneTaken, final_names}
-use Rattle.promote_rename.specs.Promotions.{ArePromoted}
+use Rattle.combined_index.specs.Finals.{NoneTaken, final_names}
+use Rattle.combined_index.specs.Promotions.{ArePromoted}
 use Rattle.thin_link.specs.Linking.{IsThinLink}
 use Rattle.thin_link.specs.Views.{rows}
 use Rattle.merge_meaning.specs.Lives.{parts}

@@ -9,8 +9,8 @@ use Rattle.ir_print.specs.Modules.{module_text}
 use Rattle.symbol_resolve.specs.Clashes.{given_text}
 use Rattle.ir_tree.specs.declared.target_line.TargetLine.TheVariants.{Datalayout, Triple}
 use Rattle.combined_index.specs.Combined.{Combined}
-use Rattle.promote_rename.specs.Finals.{NoneTaken, final_names}
-use Rattle.promote_rename.specs.Promotions.{ArePromoted}
+use Rattle.combined_index.specs.Finals.{NoneTaken, final_names}
+use Rattle.combined_index.specs.Promotions.{ArePromoted}
 use Rattle.merge_meaning.specs.Lives.{parts}
 use Rattle.thin_link.specs.Linking.{IsThinLink}
 use Rattle.lto_task.specs.declared.piece.Piece.{Piece}

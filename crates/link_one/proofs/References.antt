@@ -17,7 +17,7 @@ use Rattle.combined_index.specs.Combined.{Combined, prevailing_of}
 use Rattle.combined_index.specs.Entries as entries
 use Rattle.combined_index.specs.Indexed.{symbol_at}
 use Rattle.combined_index.specs.declared.definition.Definition.{Definition as Listed}
-use Rattle.liveness.specs.Liveness.{refs, refs_of}
+use Rattle.combined_index.specs.Liveness.{refs, refs_of}
 use Rattle.ir_meaning.specs.Programs.{Definition, definition_of, shared, symbol_of}
 use Rattle.merge_meaning.proofs.Standing.{first, first_or_later, in_filter, in_map, later, map_from, nothing}
 use Rattle.merge_meaning.specs.Globals.{named_by}

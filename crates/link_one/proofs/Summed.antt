@@ -33,7 +33,7 @@ use Rattle.symbol_resolve.specs.Resolved.{module_of, symbols}
 use Rattle.symbol_resolve.specs.declared.mention.Standing.{Standing}
 use Rattle.combined_index.specs.Entries as entries
 use Rattle.ir_meaning.specs.Programs.{shared, symbol_of}
-use Rattle.liveness.proofs.Sources.{any_one}
+use Rattle.combined_index.proofs.Sources.{any_one}
 use Rattle.merge_meaning.specs.Merged.{is_own, local_to, prevails, prevails_as, standing_of, symbol_in}
 use Rattle.merge_meaning.proofs.Looked.{some_is, symbol_stands}
 use Rattle.merge_meaning.proofs.Names.{clash, not_true}

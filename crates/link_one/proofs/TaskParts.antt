@@ -17,10 +17,10 @@ use Rattle.ir_tree.specs.declared.module.Module.{Module}
 use Rattle.ir_meaning.specs.Programs.{symbol_of}
 use Rattle.combined_index.specs.Combined.{Combined}
 use Rattle.combined_index.specs.Indexed.{symbol_at}
-use Rattle.liveness.proofs.Sources.{find_one}
+use Rattle.combined_index.proofs.Sources.{find_one}
 use Rattle.lto_task.specs.Declarations.{DeclarationsAreSound}
 use Rattle.lto_task.specs.Tasks.{TaskView, module_of}
-use Rattle.promote_rename.specs.Finals.{NoneTaken, final_name, final_names}
+use Rattle.combined_index.specs.Finals.{NoneTaken, final_name, final_names}
 use Rattle.merge_meaning.specs.Laws.{LiveByModule, OutsideIsDeclared, PartsAreSound}
 use Rattle.merge_meaning.specs.Lives.{final_symbol, live_outside, parts}
 use Rattle.merge_meaning.specs.Linkable.{AreLinkable}

@@ -4,7 +4,7 @@ use Rattle.std.specs.List.{AllZip}
 use Rattle.ir_tree.specs.Wholes.{IsVerified}
 use Rattle.ir_tree.specs.declared.module.Module.{Module}
 use Rattle.ir_print.specs.Modules.{module_text}
-use Rattle.promote_rename.specs.Suffixes.{suffix_of}
+use Rattle.combined_index.specs.Suffixes.{suffix_of}
 use Rattle.merge_meaning.specs.Laws.{PartsAreSound}
 use Rattle.back_end.specs.Laws.{MadeIsOne}
 use Rattle.emit.specs.Laws.{EmissionIsOne}

@@ -5,7 +5,7 @@ use Rattle.symbol_resolve.specs.Clashes.{IsLeast}
 use Rattle.combined_index.specs.Combined.{Combined}
 use Rattle.lto_fault.specs.declared.refusal.Refusal.{Refusal}
 use Rattle.lto_fault.specs.declared.refusal.Refusal.TheVariants.{NameTaken}
-use Rattle.promote_rename.specs.Finals.{IsTaken, final_names}
+use Rattle.combined_index.specs.Finals.{IsTaken, final_names}
 use Rattle.thin_link.specs.Laws.{DecisionsAreOne, RefusalIsOne, ThinLinkIsNotRefused}
 use Rattle.thin_link.specs.Linking.{IsThinLink}
 use Rattle.link_one.specs.LinkedLaws.{UnlinkedIsNotLinked, UnlinkedIsOne}

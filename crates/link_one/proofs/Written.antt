@@ -3,7 +3,7 @@ use Rattle.std.proofs.Common.{◌≡◌, ℕ, List, map, subst}
 use Rattle.std.specs.List.{AllZip}
 use Rattle.ir_tree.specs.declared.module.Module.{Module}
 use Rattle.ir_print.specs.Modules.{module_text}
-use Rattle.promote_rename.specs.Suffixes.{suffix_of}
+use Rattle.combined_index.specs.Suffixes.{suffix_of}
 use Rattle.link_one.specs.Accepted.{Accepts}
 use Rattle.link_one.specs.Laws.{LinkedIsOne}
 use Rattle.link_one.specs.Linked.{IsLinked}

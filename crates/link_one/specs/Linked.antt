@@ -9,7 +9,7 @@ use Rattle.ir_tree.specs.declared.operand.Symbol.{Symbol}
 use Rattle.symbol_resolve.specs.Clashes.{given_text}
 use Rattle.ir_tree.specs.declared.target_line.TargetLine.TheVariants.{Datalayout, Triple}
 use Rattle.combined_index.specs.Combined.{Combined}
-use Rattle.promote_rename.specs.Finals.{NoneTaken, final_names}
+use Rattle.combined_index.specs.Finals.{NoneTaken, final_names}
 use Rattle.merge_meaning.specs.Lives.{parts}
 use Rattle.back_end.specs.Inlinable.{bodies_of}
 use Rattle.back_end.specs.Made.{IsMade}

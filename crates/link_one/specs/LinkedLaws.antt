@@ -11,7 +11,7 @@ use Rattle.lto_fault.specs.declared.refusal.Refusal.{Refusal}
 use Rattle.symbol_resolve.specs.Clashes.{given_text}
 use Rattle.ir_tree.specs.declared.target_line.TargetLine.TheVariants.{Datalayout, Triple}
 use Rattle.combined_index.specs.Combined.{Combined}
-use Rattle.promote_rename.specs.Finals.{NoneTaken, final_names}
+use Rattle.combined_index.specs.Finals.{NoneTaken, final_names}
 use Rattle.lto_task.specs.declared.piece.Piece.{Piece}
 use Rattle.emit.specs.Joins.{IsJoin}
 use Rattle.thin_link.specs.Linking.{IsThinLink}

@@ -7,7 +7,7 @@ use Rattle.ir_print.specs.Modules.{module_text}
 use Rattle.ir_meaning.specs.Programs.{program_of}
 use Rattle.merge_meaning.specs.Lives.{is_export}
 use Rattle.merge_meaning.specs.Merged.{merged}
-use Rattle.promote_rename.specs.Suffixes.{suffix_of}
+use Rattle.combined_index.specs.Suffixes.{suffix_of}
 use Rattle.link_one.specs.Accepted.{Accepts}
 use Rattle.link_one.specs.Linked.{IsLinked}
 use Rattle.link_one.specs.Naming.{linked_names}

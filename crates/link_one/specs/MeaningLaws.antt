@@ -8,8 +8,8 @@ use Rattle.ir_meaning.specs.Refine.{RefinesUnder}
 use Rattle.ir_meaning.specs.Rename.{then_names}
 use Rattle.ir_meaning.specs.Programs.{definition_of, program_of, shared}
 use Rattle.combined_index.specs.Combined.{Combined, prevailing_of}
-use Rattle.liveness.specs.Liveness.{refs}
-use Rattle.promote_rename.specs.Finals.{NoneTaken, final_names}
+use Rattle.combined_index.specs.Liveness.{refs}
+use Rattle.combined_index.specs.Finals.{NoneTaken, final_names}
 use Rattle.merge_meaning.specs.Laws.{AllWhole}
 use Rattle.merge_meaning.specs.Linkable.{AreLinkable}
 use Rattle.merge_meaning.specs.Linked.{AreEmitted, DefinitionNames, Improves, IsClosed, IsReordering, back_names, emission}

@@ -4,8 +4,8 @@ use Rattle.ir_tree.specs.declared.module.Module.{Module}
 use Rattle.ir_print.specs.Modules.{module_text}
 use Rattle.symbol_resolve.specs.Clashes.{given_text}
 use Rattle.ir_tree.specs.declared.target_line.TargetLine.TheVariants.{Datalayout, Triple}
-use Rattle.promote_rename.specs.Finals.{NoneTaken, final_names}
-use Rattle.promote_rename.specs.Promotions.{ArePromoted}
+use Rattle.combined_index.specs.Finals.{NoneTaken, final_names}
+use Rattle.combined_index.specs.Promotions.{ArePromoted}
 use Rattle.thin_link.specs.Linking.{IsThinLink}
 use Rattle.thin_link.specs.Views.{rows}
 use Rattle.merge_meaning.specs.Lives.{parts}

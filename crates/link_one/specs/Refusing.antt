@@ -3,7 +3,7 @@ use Rattle.std.specs.Prelude.{◌≡◌, ◌⊎◌, ℕ, Bool, List, Option}
 use Rattle.ir_tree.specs.declared.module.Module.{Module}
 use Rattle.symbol_resolve.specs.Clashes.{IsLeast}
 use Rattle.combined_index.specs.Combined.{Combined}
-use Rattle.promote_rename.specs.Finals.{IsTaken, NoneTaken, final_names}
+use Rattle.combined_index.specs.Finals.{IsTaken, NoneTaken, final_names}
 use Rattle.lto_fault.specs.declared.refusal.Refusal.{Refusal}
 use Rattle.lto_fault.specs.declared.refusal.Refusal.TheVariants.{NameTaken}
 use Rattle.thin_link.specs.Linking.{IsThinLink}

@@ -3,7 +3,7 @@ use Rattle.std.specs.Prelude.{ℕ, Bool, List, [], All, slice_index_or}
 use Rattle.ir_tree.specs.Wholes.{IsVerified}
 use Rattle.ir_tree.specs.declared.module.Module.{Module}
 use Rattle.combined_index.specs.Combined.{Combined}
-use Rattle.promote_rename.specs.Finals.{NoneTaken, final_names}
+use Rattle.combined_index.specs.Finals.{NoneTaken, final_names}
 use Rattle.thin_link.specs.Linking.{IsThinLink}
 use Rattle.merge_meaning.specs.Lives.{parts}
 use Rattle.lto_task.specs.Tasks.{TaskView, module_of}

@@ -3,7 +3,7 @@
 //! The bytes of each file are read (`ir_parse`) and verified (`ir_verify`): [`accepted`] refuses bytes exactly where
 //! they are read as no sound module within the limits, with the line and the kind of the first fault
 //! (`specs/Accepted.antt`). [`link`] does the rest. By the index alone it is decided what is live, what it will be
-//! called and what each module imports (`thin_link`, `promote_rename`). Each module's part, its live definitions under
+//! called and what each module imports (`thin_link`, `combined_index`). Each module's part, its live definitions under
 //! final names (`merge_meaning`), goes into its task with what it imports (`importer`). From the task alone the module
 //! is compiled to pieces, which are printed at once (`specs/TaskUnits.antt`, `back_end`, `lto_task`). Several workers
 //! do the tasks over a shared cache, in which each looks the text of its task up first (`back_pool`). The linked text

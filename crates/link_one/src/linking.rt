@@ -7,7 +7,7 @@ ghost use Rattle.cache_slot.specs.Places.{IsAt, seen_by};
 ghost use Rattle.lto_fault.specs.declared.refusal.Refusal.TheVariants.{NoMemory};
 ghost use Rattle.lto_task.specs.Tasks.{IsWrittenTask, TaskView, task_text};
 ghost use Rattle.back_pool.specs.Making.{FitsAsMade, IsTrusted};
-ghost use Rattle.promote_rename.specs.Suffixes.{suffix_of};
+ghost use Rattle.combined_index.specs.Suffixes.{suffix_of};
 ghost use Rattle.link_one.specs.Accepted.{Accepts};
 ghost use Rattle.link_one.specs.Linking.{IsLinkOf, IsOnlyLinkOf};
 ghost use Rattle.link_one.specs.ModuleUnits.{IsTaskInLink};

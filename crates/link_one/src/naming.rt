@@ -1,12 +1,12 @@
 //! Final names, which no two live symbols have.
 ghost use Rattle.std.specs.Prelude.{◌≡◌, ◌≢◌, IfErr, OnOk, length};
 ghost use Rattle.lto_fault.specs.declared.refusal.Refusal.TheVariants.{NoMemory};
-ghost use Rattle.promote_rename.specs.Finals.{NoneTaken, final_names};
+ghost use Rattle.combined_index.specs.Finals.{NoneTaken, final_names};
 ghost use Rattle.link_one.specs.Refusing.{IsLeastTaken};
 
+use combined_index::{NamesError, final_names};
 use ir_tree::Text;
 use lto_fault::Refusal;
-use promote_rename::{NamesError, final_names};
 use std::alloc::Global;
 use thin_link::ThinLink;
 

@@ -2,21 +2,20 @@
 ghost use Rattle.std.specs.Prelude.{◌≡◌, ◌≢◌, Err, IfErr, IfOk, Ok, length};
 ghost use Rattle.lto_fault.specs.declared.refusal.Refusal.TheVariants.{NoMemory};
 ghost use Rattle.symbol_resolve.specs.Resolved.{symbols};
-ghost use Rattle.promote_rename.specs.Promotions.{ArePromoted};
+ghost use Rattle.combined_index.specs.Promotions.{ArePromoted};
 ghost use Rattle.thin_link.specs.Views.{rows};
 ghost use Rattle.merge_meaning.specs.Lives.{parts};
 ghost use Rattle.link_one.specs.Preparing.{IsPrepared, header_of};
-ghost use Rattle.promote_rename.specs.Finals.{NoneTaken, final_names};
+ghost use Rattle.combined_index.specs.Finals.{NoneTaken, final_names};
 ghost use Rattle.link_one.specs.Refusing.{IsLeastTaken, IsUnlinked};
 
 use crate::naming::named;
 use crate::target::given_text;
-use combined_index::{Index, Live};
+use combined_index::{Index, Live, promoted};
 use ir_print::print;
 use ir_tree::{GlobalValue, Module, Rows, TargetLine, Text, Verified};
 use lto_fault::Refusal;
 use merge_meaning::{LiveSymbols, parts};
-use promote_rename::promoted;
 use std::alloc::{AllocError, Global};
 use thin_link::{ThinLink, thin_link};
 

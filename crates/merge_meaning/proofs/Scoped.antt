@@ -3,7 +3,7 @@ use Rattle.std.proofs.Common.{◌≡◌, ◌∙◌, ◌<◌, ◌≤◌, ◌+◌,
 use Rattle.lto_sets.specs.Sets.{contains}
 use Rattle.ir_tree.specs.Symbols.{symbol_eq}
 use Rattle.ir_tree.specs.declared.operand.Symbol.{Symbol}
-use Rattle.promote_rename.specs.Finals.{suffix_at}
+use Rattle.combined_index.specs.Finals.{suffix_at}
 use Rattle.merge_meaning.specs.Kept.{is_kept}
 use Rattle.merge_meaning.specs.Lives.{is_live}
 use Rattle.merge_meaning.specs.Merged.{local_to, symbol_by}

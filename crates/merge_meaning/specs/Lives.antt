@@ -8,7 +8,7 @@ use Rattle.ir_tree.specs.declared.module.Module.{Module}
 use Rattle.ir_tree.specs.declared.operand.Symbol.{Symbol}
 use Rattle.ir_meaning.specs.Refine.{Naming}
 use Rattle.ir_meaning.specs.Programs.{is_declared, shared, symbol_of}
-use Rattle.promote_rename.specs.Finals.{final_name}
+use Rattle.combined_index.specs.Finals.{final_name}
 use Rattle.merge_meaning.specs.Globals.{global_under, named_by}
 use Rattle.merge_meaning.specs.Linked.{back_names, emission}
 use Rattle.merge_meaning.specs.Merged.{declaration, merged_from, merged_globals, prevails, symbol_in}

@@ -8,11 +8,11 @@ ghost use Rattle.merge_meaning.specs.Merged.{is_own, prevails_as, standing_of};
 ghost use Rattle.merge_meaning.specs.Scopes.{given_where, names_by, symbol_for};
 
 use crate::lives::{Key, Link};
+use combined_index::suffix_at;
 use indexmap::IndexSet;
 use ir_edit::Edit;
 use ir_meaning::symbol_of;
 use ir_tree::{Duplicate, GlobalValue, Linkage, Operand, Symbol};
-use promote_rename::suffix_at;
 use std::alloc::{AllocError, Global};
 
 /// Whether a global value is a definition that its module keeps for itself.

@@ -5,7 +5,7 @@
 //! `block_trim`), inlining at a call (`inline_site`), the inline walk and the order of all (`back_end`): a module, and
 //! its first function as the pass makes it, worked out by hand. The rows of facts try the rule table (`fold_rules`). Of
 //! links: the thin link (`thin_link`), by a table of links, each with its report or its refusal, and by call graphs of
-//! four files; a known suffix and a promoted local (`promote_rename`); the merged program of modules (`merge_meaning`),
+//! four files; a known suffix and a promoted local (`combined_index`); the merged program of modules (`merge_meaning`),
 //! whose definitions are those that resolution chooses (`symbol_resolve`); texts of units, and declarations
 //! (`lto_task`). Modules are read and verified (`ir_parse`, `ir_verify`), so that no proof of their soundness is
 //! needed.

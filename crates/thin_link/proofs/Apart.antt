@@ -4,7 +4,7 @@ use Rattle.ir_tree.specs.declared.module.Module.{Module}
 use Rattle.ir_summary.specs.Summaries.{summaries}
 use Rattle.symbol_resolve.specs.Resolved.{symbols}
 use Rattle.combined_index.specs.Combined.{Combined}
-use Rattle.liveness.specs.Liveness.{Refuses}
+use Rattle.combined_index.specs.Liveness.{Refuses}
 use Rattle.lto_fault.specs.declared.refusal.Refusal.{Refusal}
 use Rattle.thin_link.specs.Laws.{ThinLinkIsNotRefused}
 use Rattle.thin_link.specs.Linking.{IsIndex}

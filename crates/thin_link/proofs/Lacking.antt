@@ -3,9 +3,9 @@ use Rattle.std.proofs.Common.{◌≡◌, ◌∙◌, ◌≤◌, ℕ, List, [], No
 use Rattle.std.proofs.lemmas.Option.{get_or_from_slice_get, slice_get_within}
 use Rattle.ir_tree.specs.declared.operand.Symbol.{Symbol}
 use Rattle.combined_index.specs.Combined.{Combined, IsIndex}
-use Rattle.liveness.specs.Liveness.{AllExported, IsFirstModule, IsNamed, IsUndefined, IsUnexported, NoneUndefined, Refuses}
-use Rattle.liveness.specs.declared.refused.Refused.{Refused}
-use Rattle.liveness.specs.declared.refused.Refused.TheVariants as lack
+use Rattle.combined_index.specs.Liveness.{AllExported, IsFirstModule, IsNamed, IsUndefined, IsUnexported, NoneUndefined, Refuses}
+use Rattle.combined_index.specs.declared.refused.Refused.{Refused}
+use Rattle.combined_index.specs.declared.refused.Refused.TheVariants as lack
 use Rattle.thin_link.proofs.Clashing.{one_least}
 use Rattle.thin_link.proofs.Indices.{one_number}
 

@@ -6,7 +6,7 @@ use Rattle.std.proofs.lemmas.List.Sorted.{ranks_by}
 use Rattle.std.specs.Cmp.{IsTotalOrder}
 use Rattle.std.specs.Ordering.{is_lt}
 use Rattle.combined_index.specs.Combined.{Combined}
-use Rattle.liveness.specs.Liveness.{AreLive}
+use Rattle.combined_index.specs.Liveness.{AreLive}
 use Rattle.thin_link.specs.Plans.{IsPlan}
 use Rattle.thin_link.specs.Lines.{definition_line, import_line, module_line, text_of}
 use Rattle.thin_link.specs.Listed.{IsInOrder, Listed, listed_cmp}

@@ -7,7 +7,7 @@ use Rattle.symbol_resolve.specs.Clashes.{NoClash}
 use Rattle.symbol_resolve.specs.Resolved.{symbols}
 use Rattle.combined_index.specs.Combined.{Combined}
 use Rattle.combined_index.specs.Indexed.{IsCombined}
-use Rattle.liveness.specs.Liveness.{AllExported, AreLive, NoneUndefined}
+use Rattle.combined_index.specs.Liveness.{AllExported, AreLive, NoneUndefined}
 use Rattle.thin_link.specs.Plans.{IsPlan}
 use Rattle.thin_link.specs.Reports.{IsReport}
 

@@ -6,9 +6,9 @@ use Rattle.symbol_resolve.specs.declared.clash.Clash.{Clash}
 use Rattle.symbol_resolve.specs.declared.clash.Clash.TheVariants as clash
 use Rattle.ir_tree.specs.declared.target_line.TargetLine.{TargetLine}
 use Rattle.combined_index.specs.Combined.{Combined}
-use Rattle.liveness.specs.Liveness.{Refuses}
-use Rattle.liveness.specs.declared.refused.Refused.{Refused}
-use Rattle.liveness.specs.declared.refused.Refused.TheVariants as lack
+use Rattle.combined_index.specs.Liveness.{Refuses}
+use Rattle.combined_index.specs.declared.refused.Refused.{Refused}
+use Rattle.combined_index.specs.declared.refused.Refused.TheVariants as lack
 use Rattle.lto_fault.specs.declared.refusal.Refusal.{Refusal}
 use Rattle.lto_fault.specs.declared.refusal.Refusal.TheVariants as refusal
 use Rattle.thin_link.specs.Linking.{IsIndex}

@@ -7,8 +7,8 @@
 //! instructions falls by three tenths at each call. [`plan`] gives the functions to which a chain leads
 //! (`specs/Chains`), each once, in the order of the index's numbers (`specs/Plans`). The report has for each module a
 //! line, below it one for each of its definitions and one for each function that it imports, in the order of names
-//! (`specs/Reports`). Below stand the crates of each other step, `symbol_resolve`, `ir_summary`, `combined_index` and
-//! `liveness`, `lto_sets` for sets, and `lto_fault` for refusals.
+//! (`specs/Reports`). Below stand the crates of each other step, `symbol_resolve`, `ir_summary` and `combined_index`,
+//! `lto_sets` for sets, and `lto_fault` for refusals.
 //!
 //! **Promise.** [`thin_link`] decides all in one call, and [`index`] prints it: the decisions are those of the
 //! definitions, all of one and the same modules (`specs/Linking`), and modules have one answer ([`one_answer`]). A

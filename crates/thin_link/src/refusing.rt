@@ -2,8 +2,8 @@
 ghost use Rattle.std.specs.Prelude.{◌≡◌, IfOk};
 ghost use Rattle.thin_link.specs.Refusing.{clash_refusal, file, lack_refusal};
 
+use combined_index::Refused;
 use ir_tree::{Duplicate, Text};
-use liveness::Refused;
 use lto_fault::Refusal;
 use std::alloc::{AllocError, Global};
 use symbol_resolve::Clash;

@@ -4,7 +4,7 @@ use Rattle.ir_tree.specs.declared.module.Module.{Module}
 use Rattle.link_one.specs.Laws.{AcceptedIsNotRefused, AcceptedIsOne}
 use Rattle.link_one.specs.LinkedLaws.{UnlinkedIsOne}
 use Rattle.link_one.specs.Refusing.{IsUnlinked}
-use Rattle.promote_rename.specs.Suffixes.{suffix_of}
+use Rattle.combined_index.specs.Suffixes.{suffix_of}
 use Rattle.lto_fault.specs.declared.kind.RefusalKind.{RefusalKind}
 use Rattle.lto_fault.specs.declared.refusal.Refusal.{Refusal}
 use Rattle.lto_outside.specs.Store.{Store}

@@ -35,7 +35,7 @@ use Rattle.link_one.proofs.Bettering.{among_sound}
 use Rattle.link_one.proofs.Compiling.{AreAmong, pairs}
 use Rattle.link_one.proofs.Texts.{all_verified}
 use Rattle.ir_round_trip.specs.Sorts.{IsNumbered}
-use Rattle.promote_rename.specs.Suffixes.{suffix_of}
+use Rattle.combined_index.specs.Suffixes.{suffix_of}
 use Rattle.ir_round_trip.specs.Laws.{ReadIsNumbered, TextOrderIsNumbered, VerifiedIsRead}
 use Rattle.ir_round_trip.specs.Numbered.{LocalsNumbered, ModuleNumbered, StringsAreBytes}
 use Rattle.ir_round_trip.specs.Within.{ModuleWithin}

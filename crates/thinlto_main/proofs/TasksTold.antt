@@ -12,7 +12,7 @@ use Rattle.back_pool.specs.Making.{FitsAsMade, IsMadeText}
 use Rattle.lto_task.specs.Tasks.{IsWrittenTask, TaskView, module_of, task_text}
 use Rattle.merge_meaning.specs.Lives.{parts}
 use Rattle.merge_meaning.specs.Hosts.{getchar, putchar}
-use Rattle.promote_rename.specs.Suffixes.{suffix_of}
+use Rattle.combined_index.specs.Suffixes.{suffix_of}
 use Rattle.importer.specs.Brought.{joined}
 use Rattle.importer.specs.TaskLaws.{IsDeclared, IsOrDeclared, TasksAreOfParts}
 use Rattle.importer.proofs.Members.{all_joined, zip_map}

@@ -2,8 +2,8 @@
 use Rattle.std.proofs.Common.{◌≡◌, ◌≢◌, ℕ, List, Result, Ok, Err, inl, inr, sym, subst}
 use Rattle.std.specs.Prelude.{IfErr}
 use Rattle.ir_tree.specs.declared.module.Module.{Module}
-use Rattle.liveness.specs.declared.refused.Refused.{Refused as Lack}
-use Rattle.liveness.specs.declared.refused.Refused.TheVariants as lack
+use Rattle.combined_index.specs.declared.refused.Refused.{Refused as Lack}
+use Rattle.combined_index.specs.declared.refused.Refused.TheVariants as lack
 use Rattle.lto_fault.specs.declared.refusal.Refusal.{Refusal}
 use Rattle.lto_fault.specs.declared.refusal.Refusal.TheVariants.{Usage, ReadFault, Refused, TargetClash, DuplicateSymbol, KindClash, UndefinedSymbol, NoExport, NameTaken, BadArguments, WriteFault, NoMemory, Undefined, Uninit, OutOfSteps}
 use Rattle.symbol_resolve.specs.declared.clash.Clash.{Clash}

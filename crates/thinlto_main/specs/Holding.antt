@@ -12,7 +12,7 @@ use Rattle.link_one.specs.Accepted.{Accepts, Refuses}
 use Rattle.link_one.specs.Linking.{IsLinkOf, IsOnlyLinkOf}
 use Rattle.link_one.specs.Refusing.{IsUnlinked}
 use Rattle.lto_words.specs.declared.request.LinkOptions.{LinkOptions}
-use Rattle.promote_rename.specs.Suffixes.{suffix_of}
+use Rattle.combined_index.specs.Suffixes.{suffix_of}
 use Rattle.thin_link.specs.Refusing.{IsRefused}
 
 -- ---- what a file holds

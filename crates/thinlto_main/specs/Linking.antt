@@ -14,7 +14,7 @@ use Rattle.lto_outside.specs.Seen.{FilesSeen}
 use Rattle.combined_index.specs.Combined.{Combined}
 use Rattle.link_one.specs.Linking.{IsLinkOf, IsOnlyLinkOf}
 use Rattle.link_one.specs.Refusing.{IsUnlinked}
-use Rattle.promote_rename.specs.Suffixes.{suffix_of}
+use Rattle.combined_index.specs.Suffixes.{suffix_of}
 use Rattle.thin_link.specs.Linking.{IsThinLink}
 use Rattle.run_program.specs.Causes.{Causes}
 use Rattle.thinlto_main.specs.Modules.{AreFetched, IsRead, bytes_of, reading}

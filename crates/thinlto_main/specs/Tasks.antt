@@ -3,7 +3,7 @@ use Rattle.std.specs.Prelude.{◌≡◌, ℕ, List, All, map}
 use Rattle.std.specs.List.{AllZip}
 use Rattle.ir_tree.specs.Names.{AllBytes}
 use Rattle.ir_tree.specs.declared.module.Module.{Module}
-use Rattle.promote_rename.specs.Suffixes.{suffix_of}
+use Rattle.combined_index.specs.Suffixes.{suffix_of}
 use Rattle.lto_task.specs.Tasks.{IsWrittenTask, TaskView, task_text}
 use Rattle.link_one.specs.Accepted.{Accepts}
 use Rattle.link_one.specs.ModuleUnits.{IsTaskInLink}

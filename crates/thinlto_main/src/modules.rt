@@ -8,12 +8,12 @@ ghost use Rattle.run_program.specs.Causes.{Because, never};
 ghost use Rattle.thinlto_main.specs.Linking.{suffixes_of};
 ghost use Rattle.thinlto_main.specs.Modules.{AreRead, FirstBad, IsBad, IsRead, bytes_of, reading, unfetched};
 
+use combined_index::suffix;
 use ir_tree::{FaultKind, Rows, Text, Verified};
 use link_one::{LinkError, accepted};
 use lto_fault::{Refusal, RefusalKind};
 use lto_outside::Files;
 use lto_words::{FetchError, FileName, fetch_all};
-use promote_rename::suffix;
 use std::alloc::{AllocError, Global};
 
 /// The names as they are told in refusals.

@@ -1,9 +1,8 @@
 //! Imports in call graphs of four functions, each in a file of its own: along chains, under a limit that falls to seven
 //! tenths with each call, and in other shapes.
 use crate::links::files::{answered, linked, texts};
-use combined_index::Index;
+use combined_index::{Index, live};
 use ir_tree::Text;
-use liveness::live;
 use std::alloc::{AllocError, Global};
 use std::fmt::Write;
 use thin_link::plan;

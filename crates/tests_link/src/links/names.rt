@@ -1,6 +1,6 @@
 //! The suffix of a module's locals, and a local that an import promotes.
 use crate::links::files::linked;
-use promote_rename::{promoted, suffix};
+use combined_index::{promoted, suffix};
 use std::alloc::{AllocError, Global};
 
 #[test]

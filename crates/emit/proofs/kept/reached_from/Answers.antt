@@ -2,8 +2,8 @@ use Rattle.std.proofs.Common.{◌≡◌, ◌∙◌, ◌<◌, ◌↔◌, true, Bo
 use Rattle.std.specs.List.{All, Contains}
 use Rattle.std.specs.Prelude.{IfOk}
 use Rattle.indexmap.specs.IndexSet.{IndexSet}
-use Rattle.liveness.specs.Rows.{AreBelow, row}
-use Rattle.liveness.specs.Walking.{IsReach}
+use Rattle.combined_index.specs.Rows.{AreBelow, row}
+use Rattle.combined_index.specs.Walking.{IsReach}
 use Rattle.lto_task.specs.declared.piece.Piece.{Piece}
 use Rattle.emit.specs.Graphs.{Linked, edges, is_key, is_marked}
 use Rattle.emit.specs.Joins.{IsUsed}

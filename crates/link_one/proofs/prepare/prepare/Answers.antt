@@ -2,8 +2,8 @@ use Rattle.std.proofs.Common.{◌≡◌, ◌≢◌, ◌∙◌, Err, IfErr, ap, i
 use Rattle.std.proofs.lemmas.Result.{IfErr-at_err, IfOk-at_ok, err_from_is_err_and}
 use Rattle.lto_fault.specs.declared.refusal.Refusal.{Refusal}
 use Rattle.lto_fault.specs.declared.refusal.Refusal.TheVariants.{NoMemory}
-use Rattle.promote_rename.specs.Finals.{NoneTaken, final_names}
-use Rattle.promote_rename.specs.Promotions.{ArePromoted}
+use Rattle.combined_index.specs.Finals.{NoneTaken, final_names}
+use Rattle.combined_index.specs.Promotions.{ArePromoted}
 use Rattle.merge_meaning.specs.Lives.{parts}
 use Rattle.thin_link.proofs.Counted.{modules_counted}
 use Rattle.thin_link.specs.Views.{rows}

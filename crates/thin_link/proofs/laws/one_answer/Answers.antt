@@ -3,7 +3,7 @@ use Rattle.ir_tree.specs.declared.module.Module.{Module}
 use Rattle.combined_index.specs.Combined.{Combined}
 use Rattle.thin_link.specs.Plans.{IsPlan}
 use Rattle.thin_link.specs.Reports.{IsReport}
-use Rattle.liveness.specs.Liveness.{AreLive, Refuses}
+use Rattle.combined_index.specs.Liveness.{AreLive, Refuses}
 use Rattle.thin_link.specs.Laws.{DecisionsAreOne, RefusalIsOne, ReportIsOne, ReportedIsNotRefused}
 use Rattle.thin_link.specs.Linking.{IsIndex}
 use Rattle.thin_link.specs.Refusing.{clash_refusal, lack_refusal}

@@ -9,7 +9,7 @@ use Rattle.link_one.specs.Linking.{IsLinkOf, IsOnlyLinkOf}
 use Rattle.link_one.specs.Refusing.{CanBeLinked, IsUnlinked}
 use Rattle.lto_fault.specs.declared.refusal.Refusal.TheVariants.{NoMemory}
 use Rattle.lto_task.specs.Tasks.{task_text}
-use Rattle.promote_rename.specs.Suffixes.{suffix_of}
+use Rattle.combined_index.specs.Suffixes.{suffix_of}
 use Rattle.thinlto_main.specs.Linking.{suffixes_of}
 use Rattle.thinlto_main.specs.Modules.{IsRead, bytes_of}
 use Rattle.run_program.specs.Causes.{never}

@@ -1,5 +1,5 @@
 use Rattle.std.proofs.Common.{◌∙◌, ap, arith, take_all}
-use Rattle.promote_rename.specs.Suffixes.{suffix_of}
+use Rattle.combined_index.specs.Suffixes.{suffix_of}
 use Rattle.thinlto_main.specs.Linking.{suffixes_of}
 use Rattle.thinlto_main.specs.Modules.{bytes_of}
 use Rattle.thinlto_main.proofs.Reading.{mapped_next}

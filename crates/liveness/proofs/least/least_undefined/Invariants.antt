@@ -1,7 +1,0 @@
-use Rattle.std.proofs.Common.{option_map}
-use Rattle.liveness.specs.Best.{IsBest}
-use Rattle.liveness.specs.Marks.{IsLackingAt}
-use Rattle.liveness.proofs.least.least_undefined.Given as goal
-
-abbrev pub invariant-loop-place : goal.invariant-loop-place
-invariant-loop-place l = IsBest (IsLackingAt l.index l.live) l.place (option_map (λ f. (f.name.now, f.place)) l.best)

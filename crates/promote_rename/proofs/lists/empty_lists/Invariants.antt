@@ -1,6 +1,0 @@
-use Rattle.std.proofs.Common.{◌≡◌, ℕ, [], length}
-use Rattle.promote_rename.specs.Marks.{row}
-use Rattle.promote_rename.proofs.lists.empty_lists.Given as goal
-
-abbrev pub invariant-loop : goal.invariant-loop
-invariant-loop l = record { len : length l.lists.items ≡ l.counter; empty : (i : ℕ) → row l.lists.items i ≡ [] }
