@@ -15,7 +15,7 @@ use Rattle.block_trim.specs.Merged.{IsMergeOf, Joins, joined_block, joined_block
 use Rattle.block_trim.specs.Trimmed.{AreReached, IsTrimOf, block_in, blocks_in}
 use Rattle.branch_simplify.specs.Simplified.{simplified}
 use Rattle.dead_code.specs.Least.{IsNeededOf}
-use Rattle.fact_sources.specs.Settled.{settled, settled_block}
+use Rattle.ir_facts.specs.Settled.{settled, settled_block}
 use Rattle.ir_facts.specs.Steps.{AreRounds, IsApplied, IsRound, IsStep, ends_of}
 use Rattle.slot_promote.specs.Promoted.{blocks_with, end_at, first_at, next_number, promoted_function}
 use Rattle.slot_promote.specs.Slots.{promoted_slots}

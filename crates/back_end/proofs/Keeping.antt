@@ -31,7 +31,7 @@ use Rattle.branch_simplify.specs.Simplified.{entries_left, lost_into, phi_left, 
 use Rattle.block_trim.specs.Trimmed.{IsTrimOf, block_in, blocks_in, entries_in, phi_in}
 use Rattle.block_trim.specs.Merged.{IsMergeOf, Joins, behind_entry, entry_named, joined_block, joined_blocks, phi_named, renamed}
 use Rattle.dead_code.specs.Least.{IsNeededOf}
-use Rattle.fact_sources.specs.Settled.{choice_of, frozen_as, settled, settled_block, settled_instr, settled_line}
+use Rattle.ir_facts.specs.Settled.{choice_of, frozen_as, settled, settled_block, settled_instr, settled_line}
 use Rattle.ir_facts.specs.Steps.{AreRounds, IsRound, IsStep, candidate_of, end_of, ends_of}
 use Rattle.slot_promote.specs.Promoted.{End, blocks_with, end_at, end_with, entries_of, first_at, new_phis, next_number, phis_from, promoted_function}
 use Rattle.slot_promote.specs.Slots.{promoted_slots}

@@ -25,7 +25,7 @@ use Rattle.ir_meaning.specs.Operate.{Answer, Is, Never, Unwritten, binary_bits}
 use Rattle.ir_meaning.specs.Table.{all_zero, any_poison, binary_rule, cast_constant, cast_numbers, compared_addresses, compared_constants, compared_numbers, comparison_rule, constant_answer, constant_indices, equality, first, folded_or, freeze_rule, frozen_number, is_number, is_poison, number_of, poisoned, rule, same, selected_number, symbol_at, truth, unchanged, when, zeroed}
 use Rattle.ir_meaning.specs.declared.value.Value.TheVariants.{Number, Pointer, Poison}
 use Rattle.ir_meaning.specs.Facts.{Facts, is_local, is_phi_operand}
-use Rattle.fact_sources.specs.Candidates.{block_candidates, blocks_candidates, first_other, line_candidates, line_source, other_than, paired, phi_candidates, phi_source, result_candidate, sole_source, takes_only}
+use Rattle.ir_facts.specs.Candidates.{block_candidates, blocks_candidates, first_other, line_candidates, line_source, other_than, paired, phi_candidates, phi_source, result_candidate, sole_source, takes_only}
 use Rattle.back_end.proofs.Naming.{BlocksKnown, EntriesKnown, InstrKnown, LinesKnown, PhisKnown}
 
 module _ (known : List Symbol) where

@@ -3,10 +3,6 @@ pub mod Membership
 pub mod Naming
 pub mod Substitutions
 pub mod Tables
-pub mod Askable
-pub mod Candidates
-pub mod Laws
-pub mod Settled
 pub mod Above
 pub mod Places
 pub mod AtPoints

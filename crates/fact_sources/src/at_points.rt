@@ -6,8 +6,8 @@ ghost use Rattle.lto_sets.specs.Sets.{contains};
 ghost use Rattle.fact_sources.specs.AtPoints.{block_at, blocks_at, edges_at, function_at, last_point, lines_at, phis_at, standing, standing_behind};
 
 use crate::fact::Fact;
+use crate::naming::is_local;
 use crate::rebuilt::with_blocks;
-use crate::sources::is_local;
 use ir_edit::{Edit, end_edited, instr_edited};
 use ir_tree::{Block, Duplicate, Function, Incoming, Line, Operand, Phi, Rows};
 use std::alloc::{AllocError, Global};

@@ -1,6 +1,7 @@
 //! Whether a function uses one of some locals, so that there is something to replace.
 ghost use Rattle.std.specs.Prelude.{◌≡◌, ℕ, Bool, nat_eq};
 ghost use Rattle.std.specs.HashSet.{contains};
+ghost use Rattle.ir_meaning.specs.Facts.{is_local};
 ghost use Rattle.fact_sources.specs.Membership.{beside, is_member};
 ghost use Rattle.fact_sources.specs.Naming.{arguments_name, block_names, blocks_name, end_names, entries_name, instr_names, lines_name, phis_name};
 
@@ -37,6 +38,16 @@ impl<'a> Locals for Beside<'a> {
 
     fn has(&self, local: u32) -> bool {
         self.set.contains(&local) && !self.but.contains(&local)
+    }
+}
+
+/// Whether an operand is this local.
+pub fn is_local(local: u32, operand: &Operand) -> bool
+    ensures { result ≡ is_local local operand.now }
+{
+    match operand {
+        Operand::Local(own) => *own == local,
+        _ => false,
     }
 }
 

@@ -5,11 +5,7 @@ use ir_tree::{Block, Duplicate, Function, Rows};
 use std::alloc::{AllocError, Global};
 
 /// The function with these blocks in place of its own.
-pub(crate) fn with_blocks(
-    alloc: Global,
-    f: &Function,
-    blocks: Rows<Block>,
-) -> Result<Function, AllocError>
+pub fn with_blocks(alloc: Global, f: &Function, blocks: Rows<Block>) -> Result<Function, AllocError>
     ensures { IfOk result (λ g. g ≡ record f.now { blocks = blocks }) }
 {
     let symbol = f.symbol.duplicate(alloc)?;

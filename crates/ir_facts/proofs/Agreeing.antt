@@ -28,7 +28,7 @@ use Rattle.ir_facts.specs.Steps.{IsSolution, end_of, ends_of}
 use Rattle.ir_facts.proofs.Blocks.{edge_of, find_at, found_there}
 use Rattle.ir_facts.proofs.Holding.{edge_all, with_has, without_had, without_has}
 use Rattle.ir_facts.proofs.OneFunction.{left_apart}
-use Rattle.fact_sources.proofs.Standing.{not_true, own_local, same_true}
+use Rattle.ir_facts.proofs.Standing.{not_true, own_local, same_true}
 
 -- ---- an operand is the same as itself
 

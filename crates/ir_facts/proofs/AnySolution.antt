@@ -23,8 +23,8 @@ use Rattle.ir_meaning.specs.Needed.{AllKept, EndReads, IsKept, UsesKept}
 use Rattle.ir_meaning.proofs.Alike.Itself.{same_better}
 use Rattle.ir_meaning.proofs.Facts.Known.{known_better}
 use Rattle.ir_edit.specs.Substituted.{replacement}
-use Rattle.fact_sources.specs.Candidates.{candidates}
-use Rattle.fact_sources.specs.Settled.{IsFirm, IsSettled, LinesFirm}
+use Rattle.ir_facts.specs.Candidates.{candidates}
+use Rattle.ir_facts.specs.Settled.{IsFirm, IsSettled, LinesFirm}
 use Rattle.ir_facts.specs.Steps.{IsSolution, StepsAreBetter, end_of, ends_of, substituted_by}
 use Rattle.ir_facts.proofs.Blocks.{find_at, found_there}
 use Rattle.ir_facts.proofs.Covering.{covered}

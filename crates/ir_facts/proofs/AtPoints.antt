@@ -34,11 +34,11 @@ use Rattle.ir_facts.proofs.Agreeing.{AreMarks, Flows, Marks, along_marks, are_ma
 use Rattle.ir_facts.proofs.Blocks.{find_at}
 use Rattle.ir_facts.proofs.Covers.{BlockCovered, Covers, EdgesCovered, LinesCovered, PhisCovered, TakenAt, behind, closing, closing_is, opening, with_named}
 use Rattle.ir_facts.proofs.Editing.{block_by}
-use Rattle.ir_facts.proofs.Holding.{AreSafe, Held, Known, LinesSafe, SafeFrom, filled, filled_fills, filled_solves, known_one, known_lines, local_none, local_some, params_kept, with_has, without_has}
+use Rattle.ir_facts.proofs.Holding.{AreSafe, Held, Known, LinesSafe, SafeFrom, filled, filled_fills, filled_solves, known_one, known_lines, local_none, local_some, with_has, without_has}
 use Rattle.ir_facts.proofs.OneFunction.{AreIn, both, both_solve, edge_in, left_in, right_in, without_in}
 use Rattle.ir_facts.proofs.Places.{base, base_next, last_of, last_same, long_as, point_of}
 use Rattle.ir_facts.proofs.RightSources.{AreSources}
-use Rattle.fact_sources.proofs.Staying.{cases_stay, local_stays}
+use Rattle.fact_sources.proofs.Staying.{cases_stay, local_stays, params_stay}
 use Rattle.ir_facts.proofs.Substituting.{one_place}
 
 abbrev pub pairs : List Fact → Facts
@@ -463,7 +463,7 @@ module _ (c cf : ℕ → Option Operand) (sub : (x : ℕ) (v : Operand) → cf x
 
     made_same : made ≡ substituted_by c others f
     made_same = λ i. record f {
-      params = sym (params_kept cf f.params) i;
+      params = sym (params_stay f.params) i;
       blocks = blocks_same 0 0 f.blocks refl (λ j d e. let on : 0 + j ≡ j = omega arith in ap (slice_get f.blocks) on ∙ e) i;
     }
 

@@ -15,10 +15,10 @@ use Rattle.ir_tree.specs.declared.operand.Reg.{Reg}
 use Rattle.ir_tree.specs.declared.operand.Reg.TheVariants.{Int, Ptr}
 use Rattle.ir_meaning.specs.Table.{comparison_rule, freeze_rule, frozen_number, is_equality, is_poison, may_choose, number_of, rule, same, truth}
 use Rattle.ir_meaning.proofs.Rules.Tabled.{table_right}
-use Rattle.fact_sources.specs.Settled.{IsFirm, choice_of, frozen_as, number_in, settled_instr}
+use Rattle.ir_facts.specs.Settled.{IsFirm, choice_of, frozen_as, number_in, settled_instr}
 use Rattle.ir_facts.proofs.RuleReads.{Of, comparison_of, freeze_of, of_some}
 use Rattle.ir_facts.proofs.RuleTypes.{small_of}
-use Rattle.fact_sources.proofs.Standing.{not_true}
+use Rattle.ir_facts.proofs.Standing.{not_true}
 use Rattle.ir_facts.proofs.Words.{Small}
 
 -- ---- rows of instructions that may choose

@@ -4,7 +4,7 @@ use Rattle.std.specs.Prelude.{◌&&◌, not}
 use Rattle.ir_tree.specs.declared.block.Block.{Block}
 use Rattle.ir_tree.specs.declared.instr.Line.{Line}
 use Rattle.ir_meaning.specs.Facts.{is_phi}
-use Rattle.fact_sources.specs.Candidates.{block_candidates, phi_candidates}
+use Rattle.ir_facts.specs.Candidates.{block_candidates, phi_candidates}
 use Rattle.fact_sources.specs.Apart.{defined}
 use Rattle.ir_facts.specs.Clear.{all_over, any_among, block_clear, inner_keys, is_over, keys_among, lines_clear, phis_barred, with_given}
 use Rattle.fact_sources.specs.Membership.{beside}

@@ -9,7 +9,6 @@ use Rattle.ir_tree.specs.declared.block.Terminator.{Terminator}
 use Rattle.ir_tree.specs.declared.block.Terminator.TheVariants.{Branch, Jump, Return, Switch, Unreachable}
 use Rattle.ir_tree.specs.declared.block.Case.{Case}
 use Rattle.ir_tree.specs.declared.function.Function.{Function}
-use Rattle.ir_tree.specs.declared.function.Param.{Param}
 use Rattle.ir_tree.specs.declared.instr.Incoming.{Incoming}
 use Rattle.ir_tree.specs.declared.instr.Instr.{Instr}
 use Rattle.ir_tree.specs.declared.instr.Instr.TheVariants.{Address, Alloca, Binary, Call, Cast, Freeze, Icmp, Load, Phi as StrayPhi, Select, Store}
@@ -21,9 +20,10 @@ use Rattle.ir_tree.specs.declared.operand.Operand.TheVariants.{Local, Null, Numb
 use Rattle.ir_meaning.specs.Act.{find_block}
 use Rattle.ir_meaning.specs.Facts.{EdgeFacts, EntryIs, Facts, Has, IsTarget, behind_lines, behind_local, block_replaced, blocks_replaced, edge_operand, edges_replaced, end_replaced, is_local, is_phi, is_phi_operand, lines_replaced, phi_operand, phis_replaced, replaced, replaced_local, with_fact, without}
 use Rattle.ir_meaning.specs.Needed.{AllKept, EndReads, IsKept, UsesKept}
-use Rattle.ir_tree.specs.Edited.{argument_edited, case_edited, edited, end_edited, incoming_edited, instr_edited, line_edited, param_edited, phi_edited, with_operands}
+use Rattle.ir_tree.specs.Edited.{argument_edited, case_edited, edited, end_edited, incoming_edited, instr_edited, line_edited, phi_edited, with_operands}
 use Rattle.ir_edit.specs.Substituted.{operand_replaced, or_local}
 use Rattle.ir_flow.proofs.Solved.{at_end}
+use Rattle.fact_sources.proofs.Staying.{params_stay}
 use Rattle.ir_facts.specs.Steps.{IsSolution, IsStep, end_of, ends_of, substituted_by}
 use Rattle.ir_facts.proofs.Blocks.{edge_of, find_at, found_there}
 use Rattle.ir_facts.proofs.Covers.{BlockCovered, Covers, EdgesCovered, LinesCovered, PhisCovered, TakenAt, behind, closing, closing_is, opening, with_named}
@@ -193,10 +193,6 @@ module _ (c : ℕ → Option Operand) where
   end_same s fs held known (Branch o yes' no') k = λ i. Branch (same_operand s fs held known o k i) yes' no'
   end_same s fs held known (Switch w o default cases) k = λ i. Switch w (same_operand s fs held known o k i) default (cases_kept cases i)
   end_same s fs held known Unreachable k = refl
-
-  pub params_kept : (ps : List Param) → ps ≡ map (param_edited (λ x. x)) ps
-  params_kept [] = refl
-  params_kept (p ∷ ps) = ap (λ (more : List Param). p ∷ more) (params_kept ps)
 
   -- ---- facts by number
 
@@ -428,7 +424,7 @@ module _ (c : ℕ → Option Operand) (r : ℕ → ℕ → Bool) (f : Function) 
 
   pub all_replaced : (starts : ℕ → Facts) → Fills starts → ((n : ℕ) → Known c (starts n)) → edited (λ x. x) (operand_replaced c) f ≡ substituted_by c starts f
   all_replaced starts fills known =
-      λ i. record f { params = sym (params_kept c f.params) i; blocks = sym (blocks_same starts fills known 0 f.blocks (λ j d e. let on : 0 + j ≡ j = omega arith in ap (slice_get f.blocks) on ∙ e)) i }
+      λ i. record f { params = sym (params_stay f.params) i; blocks = sym (blocks_same starts fills known 0 f.blocks (λ j d e. let on : 0 + j ≡ j = omega arith in ap (slice_get f.blocks) on ∙ e)) i }
 
   pub one_step : IsStep c f (edited (λ x. x) (operand_replaced c) f)
   one_step = record {

@@ -1,5 +1,5 @@
 -- Rounds where no unreached block gives a local a value and nothing rests on a free choice: each use replaced, block by block.
-use Rattle.std.proofs.Common.{◌≡◌, ℕ, Bool, false, List, None, map, sym, subst}
+use Rattle.std.proofs.Common.{◌≡◌, ℕ, Bool, false, List, map, sym, subst}
 use Rattle.ir_tree.specs.Rules.{Sound}
 use Rattle.ir_tree.specs.declared.block.Block.{Block}
 use Rattle.ir_tree.specs.declared.function.Function.{Function}
@@ -7,19 +7,19 @@ use Rattle.ir_tree.specs.Edited.{block_edited}
 use Rattle.ir_edit.specs.Substituted.{operand_replaced, replacement}
 use Rattle.fact_sources.specs.Apart.{IsApart}
 use Rattle.fact_sources.proofs.NoneResting.{none_rest}
-use Rattle.fact_sources.specs.Candidates.{blocks_candidates, candidates}
-use Rattle.fact_sources.specs.Settled.{any_choice_in}
-use Rattle.fact_sources.proofs.Kept.{nothing_settled}
+use Rattle.ir_facts.specs.Candidates.{blocks_candidates, candidates}
+use Rattle.ir_facts.specs.Settled.{any_choice_in}
+use Rattle.ir_facts.proofs.Kept.{nothing_settled}
 use Rattle.ir_facts.specs.Blocks.{with_blocks}
 use Rattle.ir_facts.specs.Steps.{AreRounds, IsRound, IsStep, candidate_of, step_of}
-use Rattle.ir_facts.proofs.Holding.{params_kept}
+use Rattle.fact_sources.proofs.Staying.{params_stay}
 use Rattle.ir_facts.proofs.InRounds.{last_round}
 use Rattle.ir_facts.proofs.Parting.{step_everywhere}
 
 -- the blocks with each use replaced are the function's
 replaced_is : (f : Function) (bs new : List Block) → new ≡ map (block_edited (λ x. x) (operand_replaced (replacement (blocks_candidates bs)))) bs
     → with_blocks f new ≡ step_of (with_blocks f bs)
-replaced_is f bs new e = λ i. record f { params = params_kept (λ x. None) f.params i; blocks = e i }
+replaced_is f bs new e = λ i. record f { params = params_stay f.params i; blocks = e i }
 
 module _ (among : ℕ → Bool) (none : (x : ℕ) → among x ≡ false) (f : Function) (bs new : List Block) (sound : Sound (with_blocks f bs)) (apart : IsApart (with_blocks f bs) among)
     (firm : any_choice_in bs ≡ false) (is : new ≡ map (block_edited (λ x. x) (operand_replaced (replacement (blocks_candidates bs)))) bs) where

@@ -13,8 +13,8 @@ use Rattle.ir_meaning.proofs.Alike.Itself.{same_better}
 use Rattle.ir_meaning.proofs.Between.InARow.{in_a_row}
 use Rattle.ir_tree.specs.Edited.{edited}
 use Rattle.ir_edit.specs.Substituted.{operand_replaced, replacement}
-use Rattle.fact_sources.specs.Candidates.{candidates}
-use Rattle.fact_sources.specs.Settled.{settled}
+use Rattle.ir_facts.specs.Candidates.{candidates}
+use Rattle.ir_facts.specs.Settled.{settled}
 use Rattle.ir_facts.specs.Steps.{AllReached, AreRounds, IsRound, IsStep, RoundsAreAll, RoundsAreBetter, SettledIsBetter, candidate_of, round_of, rounds_of, step_of}
 use Rattle.ir_facts.proofs.AnySolution.{steps_better}
 use Rattle.ir_facts.proofs.Covering.{covered}

@@ -10,7 +10,7 @@ use Rattle.ir_meaning.specs.Facts.{Facts, Has}
 use Rattle.ir_edit.specs.Numbered.{later_or}
 use Rattle.ir_edit.specs.Substituted.{replacement}
 use Rattle.fact_sources.specs.Apart.{defined, is_listed}
-use Rattle.fact_sources.specs.Candidates.{block_candidates, blocks_candidates}
+use Rattle.ir_facts.specs.Candidates.{block_candidates, blocks_candidates}
 use Rattle.ir_facts.specs.Clear.{all_inner, all_over, any_among, inner_keys, is_over, keys_among}
 use Rattle.fact_sources.specs.Membership.{beside, is_member}
 use Rattle.ir_facts.proofs.Matching.{KeysIn}

@@ -16,11 +16,11 @@ use Rattle.ir_edit.specs.Numbered.{later_or}
 use Rattle.ir_edit.specs.Substituted.{replacement}
 use Rattle.ir_edit.proofs.Tally.{tally, tally_both, tally_same}
 use Rattle.fact_sources.specs.Apart.{firm, resting}
-use Rattle.fact_sources.specs.Candidates.{block_candidates, blocks_candidates, candidates, line_candidates, line_source, paired, phi_candidates, phi_source, result_candidate}
+use Rattle.ir_facts.specs.Candidates.{block_candidates, blocks_candidates, candidates, line_candidates, line_source, paired, phi_candidates, phi_source, result_candidate}
 use Rattle.fact_sources.specs.Membership.{is_member}
 use Rattle.fact_sources.specs.Naming.{is_key}
 use Rattle.ir_facts.proofs.Matching.{Once, locals_once, once_right}
-use Rattle.ir_facts.proofs.Unnamed.{no_key}
+use Rattle.fact_sources.proofs.Unnamed.{no_key}
 
 -- the locals of facts
 abbrev pub keys : Facts → List ℕ

@@ -14,6 +14,7 @@ pub mod Holding
 pub mod InPlace
 pub mod InRounds
 pub mod Inner
+pub mod Kept
 pub mod Keys
 pub mod Lookups
 pub mod Marks
@@ -37,12 +38,12 @@ pub mod Settling
 pub mod SoleOperands
 pub mod SourceTypes
 pub mod Sourcing
+pub mod Standing
 pub mod StepSound
 pub mod StepsSound
 pub mod StillApart
 pub mod Substituting
 pub mod Thinning
-pub mod Unnamed
 pub mod Unused
 pub mod Walking
 pub mod Widths

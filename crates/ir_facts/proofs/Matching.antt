@@ -17,8 +17,8 @@ use Rattle.ir_meaning.specs.Facts.{Facts, is_local, is_phi_operand}
 use Rattle.ir_edit.specs.Numbered.{later_or}
 use Rattle.ir_edit.specs.Substituted.{replacement}
 use Rattle.ir_edit.proofs.Tally.{tally, tally_both, tally_once}
-use Rattle.fact_sources.specs.Candidates.{block_candidates, blocks_candidates, candidates, first_other, line_candidates, line_source, other_than, paired, phi_candidates, phi_source, result_candidate, sole_source, takes_only}
-use Rattle.fact_sources.specs.Laws.{IsPhiSource, PhiSourcesRight}
+use Rattle.ir_facts.specs.Candidates.{block_candidates, blocks_candidates, candidates, first_other, line_candidates, line_source, other_than, paired, phi_candidates, phi_source, result_candidate, sole_source, takes_only}
+use Rattle.ir_facts.specs.SourceLaws.{IsPhiSource, PhiSourcesRight}
 use Rattle.ir_facts.proofs.RightSources.{IsTaken, LineSource, LineSources, PhiSources}
 
 -- ---- lists whose elements are counted

@@ -8,7 +8,7 @@ use Rattle.ir_tree.specs.declared.instr.Phi.{Phi}
 use Rattle.ir_tree.specs.declared.operand.Operand.{Operand}
 use Rattle.ir_meaning.specs.Act.{find_block}
 use Rattle.ir_meaning.specs.Facts.{EdgeFacts, EntryIs, Facts, Has, behind_lines, behind_local, is_local, phi_operand, with_fact, without}
-use Rattle.fact_sources.specs.Settled.{settled}
+use Rattle.ir_facts.specs.Settled.{settled}
 use Rattle.ir_facts.specs.Steps.{AppliedIsOne, AreRounds, IsRound, IsSolution, IsStep, candidate_of, end_of, ends_of}
 use Rattle.ir_facts.proofs.Holding.{without_had, without_has}
 

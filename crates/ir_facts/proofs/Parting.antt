@@ -16,7 +16,7 @@ use Rattle.ir_meaning.specs.Facts.{Facts, Has}
 use Rattle.ir_edit.specs.Substituted.{replacement, substituted}
 use Rattle.fact_sources.specs.Apart.{IsApart, defined, firm, resting}
 use Rattle.fact_sources.specs.AtPoints.{function_at}
-use Rattle.fact_sources.specs.Candidates.{block_candidates, candidates, line_candidates, phi_candidates}
+use Rattle.ir_facts.specs.Candidates.{block_candidates, candidates, line_candidates, phi_candidates}
 use Rattle.ir_facts.specs.Clear.{IsClear, is_barred, is_over, stands_over}
 use Rattle.fact_sources.specs.Membership.{is_member}
 use Rattle.ir_facts.specs.Points.{EachIsFact}

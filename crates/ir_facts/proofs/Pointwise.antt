@@ -9,7 +9,7 @@ use Rattle.ir_tree.specs.Edited.{edited}
 use Rattle.ir_edit.specs.Substituted.{operand_replaced, replacement}
 use Rattle.ir_facts.specs.Agreement.{FactsMakeSteps}
 use Rattle.fact_sources.specs.AtPoints.{function_at}
-use Rattle.fact_sources.specs.Candidates.{candidates}
+use Rattle.ir_facts.specs.Candidates.{candidates}
 use Rattle.ir_facts.specs.Steps.{IsStep}
 use Rattle.ir_facts.proofs.AtPoints.{made_step}
 use Rattle.ir_facts.proofs.Covering.{covered}
@@ -18,7 +18,7 @@ use Rattle.ir_facts.proofs.Holding.{AreSafe, LinesSafe, SafeFrom}
 use Rattle.ir_facts.proofs.Keys.{candidates_once, found_has, has_found}
 use Rattle.ir_facts.proofs.Parting.{own_all, sources_less}
 use Rattle.ir_facts.proofs.Sourcing.{are_sources}
-use Rattle.ir_facts.proofs.Unnamed.{operand_same, unnamed}
+use Rattle.fact_sources.proofs.Unnamed.{operand_same, unnamed}
 use Rattle.fact_sources.proofs.NoneNamed.{blocks_none}
 
 -- no candidates

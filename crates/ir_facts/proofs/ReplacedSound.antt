@@ -25,7 +25,7 @@ use Rattle.ir_tree.specs.declared.rule.Rule.TheVariants.{TypeMismatch, NotAvaila
 use Rattle.ir_meaning.specs.Facts.{Facts, behind_local, blocks_replaced, edges_replaced, function_replaced, lines_replaced, phis_replaced, replaced, replaced_local}
 use Rattle.ir_tree.specs.Edited.{edited}
 use Rattle.ir_edit.specs.Substituted.{replacement}
-use Rattle.fact_sources.specs.Candidates.{candidates}
+use Rattle.ir_facts.specs.Candidates.{candidates}
 use Rattle.ir_facts.proofs.Availability.{all_there, all_then}
 use Rattle.ir_facts.proofs.Covering.{covered}
 use Rattle.ir_facts.proofs.EditedItems.{item_by, typings_same}

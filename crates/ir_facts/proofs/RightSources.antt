@@ -12,7 +12,7 @@ use Rattle.ir_tree.specs.declared.operand.Operand.{Operand}
 use Rattle.ir_tree.specs.declared.operand.Operand.TheVariants.{Local}
 use Rattle.ir_meaning.specs.Table.{rule}
 use Rattle.ir_meaning.specs.Facts.{is_local}
-use Rattle.fact_sources.specs.Laws.{IsPhiSource}
+use Rattle.ir_facts.specs.SourceLaws.{IsPhiSource}
 
 abbrev pub IsTaken : Operand → List Incoming → Type 0
 IsTaken v [] = ⊥

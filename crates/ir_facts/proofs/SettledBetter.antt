@@ -30,7 +30,7 @@ use Rattle.ir_meaning.proofs.Alike.Values.{LocalsAgree, Names, if_agrees}
 use Rattle.ir_meaning.proofs.Facts.Standing.{stands_agree}
 use Rattle.ir_meaning.proofs.Facts.Known.{resume_is, variables_live}
 use Rattle.ir_meaning.proofs.Rules.Tabled.{table_right}
-use Rattle.fact_sources.specs.Settled.{settled, settled_block, settled_instr, settled_line}
+use Rattle.ir_facts.specs.Settled.{settled, settled_block, settled_instr, settled_line}
 use Rattle.ir_facts.proofs.Chosen.{settled_by}
 
 -- ---- one instruction

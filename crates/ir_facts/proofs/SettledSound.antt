@@ -18,7 +18,7 @@ use Rattle.ir_tree.specs.declared.operand.Operand.TheVariants.{Local, Null, Numb
 use Rattle.ir_tree.specs.declared.operand.Reg.TheVariants.{Int}
 use Rattle.ir_tree.specs.declared.rule.Rule.{Rule}
 use Rattle.ir_tree.specs.declared.rule.Rule.TheVariants.{TypeMismatch, NotAvailable, PhiEdges, PhiPlace, EntryBranch, Index, Cast, CaseTwice}
-use Rattle.fact_sources.specs.Settled.{settled, settled_block, settled_line}
+use Rattle.ir_facts.specs.Settled.{settled, settled_block, settled_line}
 use Rattle.ir_facts.proofs.Availability.{all_then, none_all}
 use Rattle.ir_facts.proofs.Chosen.{IsChoice, chooser_named, settled_by}
 use Rattle.ir_facts.proofs.ReplacedSound.{Alike, formed_moved, has_edges_moved, leaves_moved, types_moved}

@@ -15,7 +15,7 @@ use Rattle.ir_tree.specs.declared.operand.Reg.{Reg}
 use Rattle.ir_edit.specs.Numbered.{line_numbers, local_number, phi_numbers}
 use Rattle.ir_flow.specs.OfFunction.{IsReach}
 use Rattle.fact_sources.specs.Apart.{IsApart, given_apart, given_where, is_listed}
-use Rattle.fact_sources.specs.Settled.{IsSettled, LinesFirm, settled, settled_block, settled_line}
+use Rattle.ir_facts.specs.Settled.{IsSettled, LinesFirm, settled, settled_block, settled_line}
 use Rattle.ir_facts.specs.Steps.{AllReached}
 use Rattle.ir_facts.proofs.Chosen.{settled_firm, type_settled}
 

@@ -14,9 +14,9 @@ use Rattle.ir_tree.specs.Symbols.{symbol_eq}
 use Rattle.ir_meaning.specs.Table.{same}
 use Rattle.ir_meaning.specs.Facts.{is_local, is_phi_operand}
 use Rattle.ir_tree.proofs.Symbols.{symbol_same}
-use Rattle.fact_sources.specs.Candidates.{first_other, phi_source, sole_source, takes_only}
-use Rattle.fact_sources.specs.Laws.{IsSoleOperand, PhiSourcesAreSole}
-use Rattle.fact_sources.proofs.Standing.{another, not_true, own_local, same_true}
+use Rattle.ir_facts.specs.Candidates.{first_other, phi_source, sole_source, takes_only}
+use Rattle.ir_facts.specs.SourceLaws.{IsSoleOperand, PhiSourcesAreSole}
+use Rattle.ir_facts.proofs.Standing.{another, not_true, own_local, same_true}
 
 abbrev operands : List Incoming → List Operand
 operands es = map (λ e. e.value) es

@@ -18,13 +18,13 @@ use Rattle.ir_tree.specs.declared.operand.Operand.TheVariants.{Local, Null, Numb
 use Rattle.ir_tree.specs.declared.operand.Reg.{Reg}
 use Rattle.ir_tree.specs.declared.rule.Rule.TheVariants.{Cast as CastRule, TypeMismatch}
 use Rattle.ir_edit.specs.Substituted.{operand_replaced, or_local, replacement}
-use Rattle.fact_sources.specs.Candidates.{candidates}
+use Rattle.ir_facts.specs.Candidates.{candidates}
 use Rattle.ir_facts.proofs.Covering.{all_back, all_front, blocks_items}
 use Rattle.ir_facts.proofs.Lookups.{LineTyped, LinesTyped, PhisTyped, types_of_block}
 use Rattle.ir_facts.proofs.Matching.{has_site, matched, site_of}
 use Rattle.ir_facts.proofs.RightSources.{IsTaken, LineSource, LineSources, PhiSources}
 use Rattle.ir_facts.proofs.RuleTypes.{IsSoundInstr, Typed, row_typed}
-use Rattle.fact_sources.proofs.Standing.{phi_sources_right}
+use Rattle.ir_facts.proofs.Standing.{phi_sources_right}
 
 module _ (f : Function) where
   record IsTypedItem (item : Item) : Type 0 where

@@ -11,11 +11,11 @@ use Rattle.ir_tree.specs.declared.instr.Phi.{Phi}
 use Rattle.ir_tree.specs.declared.operand.Operand.{Operand}
 use Rattle.ir_tree.specs.declared.operand.Operand.TheVariants.{Local}
 use Rattle.ir_edit.specs.Substituted.{replacement}
-use Rattle.fact_sources.specs.Candidates.{candidates}
+use Rattle.ir_facts.specs.Candidates.{candidates}
 use Rattle.ir_facts.proofs.Covers.{Covers, EdgesCovered, PhisCovered, TakenAt, closing, closing_is, opening}
 use Rattle.ir_facts.proofs.Matching.{has_site, matched, site_of}
 use Rattle.ir_facts.proofs.RightSources.{AreSources, IsTaken, LineSources, PhiSources}
-use Rattle.fact_sources.proofs.Standing.{phi_sources_right}
+use Rattle.ir_facts.proofs.Standing.{phi_sources_right}
 use Rattle.ir_facts.proofs.Substituting.{defined_room, line_sourced}
 
 module _ (r : ℕ → ℕ → Bool) (f : Function) (cov : Covers r f) where

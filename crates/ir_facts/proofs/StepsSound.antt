@@ -7,7 +7,7 @@ use Rattle.ir_tree.specs.declared.operand.Operand.{Operand}
 use Rattle.ir_meaning.specs.Act.{find_block}
 use Rattle.ir_meaning.specs.Facts.{Facts}
 use Rattle.ir_edit.specs.Substituted.{replacement}
-use Rattle.fact_sources.specs.Candidates.{candidates}
+use Rattle.ir_facts.specs.Candidates.{candidates}
 use Rattle.ir_facts.specs.Steps.{StepsAreSound, end_of, ends_of}
 use Rattle.ir_facts.proofs.Holding.{Known, known_lines}
 use Rattle.ir_facts.proofs.ReplacedSound.{replaced_sound}

@@ -11,7 +11,7 @@ use Rattle.ir_meaning.specs.Facts.{Facts, behind_local, block_replaced, blocks_r
 use Rattle.ir_edit.specs.Numbered.{line_numbers, local_number, phi_numbers}
 use Rattle.ir_flow.specs.OfFunction.{IsReach}
 use Rattle.fact_sources.specs.Apart.{IsApart, given_apart, given_where, is_listed}
-use Rattle.fact_sources.specs.Settled.{settled}
+use Rattle.ir_facts.specs.Settled.{settled}
 use Rattle.ir_facts.specs.Steps.{AreRounds, IsRound, IsStep, candidate_of, ends_of}
 use Rattle.ir_facts.proofs.Replaced.{edges_still, length_still}
 use Rattle.ir_facts.proofs.Settling.{apart_settled, reach_settled}

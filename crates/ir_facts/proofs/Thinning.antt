@@ -15,7 +15,7 @@ use Rattle.ir_tree.specs.declared.operand.Operand.{Operand}
 use Rattle.ir_meaning.specs.Facts.{is_phi}
 use Rattle.ir_meaning.specs.Needed.{IsKept, UsesKept}
 use Rattle.ir_flow.proofs.Solved.{at_end, at_ends}
-use Rattle.fact_sources.specs.Candidates.{phi_candidates}
+use Rattle.ir_facts.specs.Candidates.{phi_candidates}
 use Rattle.fact_sources.specs.Apart.{defined, is_listed}
 use Rattle.ir_facts.specs.Clear.{IsClear, all_inner, all_over, any_among, barred, block_clear, blocks_clear, entries_barred, given_by, is_barred, is_taken, lines_clear, phis_barred, with_given}
 use Rattle.fact_sources.specs.Membership.{beside}

@@ -1,7 +1,6 @@
 -- A step with candidates of locals that nobody uses changes nothing.
 use Rattle.std.proofs.Common.{◌≡◌, ℕ, Bool, false, ◌||◌, List, [], ◌∷◌, Option, Some, None, refl, sym, ◌∙◌}
 use Rattle.std.specs.Prelude.{is_some}
-use Rattle.std.proofs.lemmas.Bool.{false≢true}
 use Rattle.ir_tree.specs.declared.block.Block.{Block}
 use Rattle.ir_tree.specs.declared.function.Function.{Function}
 use Rattle.ir_tree.specs.declared.instr.Incoming.{Incoming}
@@ -17,7 +16,7 @@ use Rattle.ir_facts.proofs.Holding.{Known, known_one, local_none}
 use Rattle.ir_facts.proofs.Replaced.{end_is}
 use Rattle.ir_facts.proofs.StepsSound.{ends_known}
 use Rattle.fact_sources.proofs.Neither.{neither}
-use Rattle.ir_facts.proofs.Unnamed.{end_same, instr_same}
+use Rattle.fact_sources.proofs.Unnamed.{end_same, instr_same, nothing}
 
 module _ (among : ℕ → Bool) (c : ℕ → Option Operand) (out : (x : ℕ) → among x ≡ false → c x ≡ None) where
   some_none : (v : Operand) (o : Option Operand) → o ≡ Some v → o ≡ None → ⊥
@@ -84,10 +83,6 @@ module _ (among : ℕ → Bool) (c : ℕ → Option Operand) (out : (x : ℕ) �
           blocks = sym (blocks_stay others (ends_of c others f) (λ n x v g. sol.known n x v g) (ends_known c f others (λ n x v g. sol.known n x v g)) f.blocks h) i;
         };
   }
-
-pub nothing : (o : Option Operand) → is_some o ≡ false → o ≡ None
-nothing None h = refl
-nothing (Some v) h = absurd (false≢true (sym h))
 
 pub unused_step : (f : Function) (value : ℕ → Option Operand) → ((x : ℕ) → value x ≡ candidate_of f x) → blocks_name (λ x. is_some (value x)) f.blocks ≡ false
     → IsStep (candidate_of f) f f

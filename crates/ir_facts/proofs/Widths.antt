@@ -14,7 +14,7 @@ use Rattle.ir_tree.specs.declared.instr.Phi.{Phi}
 use Rattle.ir_tree.specs.declared.operand.Argument.{Argument}
 use Rattle.ir_tree.specs.declared.operand.Reg.TheVariants.{Int, Ptr}
 use Rattle.fold_rules.specs.Widths.{HasWidths}
-use Rattle.fact_sources.specs.Askable.{BlocksHaveWidths, LinesHaveWidths}
+use Rattle.ir_facts.specs.Askable.{BlocksHaveWidths, LinesHaveWidths}
 
 first_reg : (f : Function) (a : Argument) (more : List Argument) → All (ArgumentFormed f) (a ∷ more) → IsReg a.reg
 first_reg f a more h = let own = All-head (ArgumentFormed f) a more h in own.0

@@ -12,7 +12,7 @@ use Rattle.ir_tree.specs.declared.operand.Operand.{Operand}
 use Rattle.ir_meaning.specs.Facts.{Facts, is_phi}
 use Rattle.fact_sources.specs.Places.{AreNumbered, ArePlaced}
 use Rattle.fact_sources.specs.Apart.{defined, is_listed}
-use Rattle.fact_sources.specs.Candidates.{block_candidates, phi_candidates}
+use Rattle.ir_facts.specs.Candidates.{block_candidates, phi_candidates}
 use Rattle.fact_sources.specs.Membership.{beside, is_member}
 use Rattle.fact_sources.specs.Naming.{end_names, instr_names}
 

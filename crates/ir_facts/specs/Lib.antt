@@ -1,8 +1,12 @@
 pub mod Agreement
+pub mod Askable
 pub mod Blocks
+pub mod Candidates
 pub mod Clear
 pub mod FactFlow
 pub mod FlowLaws
 pub mod Points
 pub mod Scopes
+pub mod Settled
+pub mod SourceLaws
 pub mod Steps

@@ -9,7 +9,7 @@ use Rattle.ir_tree.specs.declared.instr.Line.{Line}
 use Rattle.ir_tree.specs.declared.operand.Operand.{Operand}
 use Rattle.ir_meaning.specs.Table.{same}
 use Rattle.ir_meaning.specs.Facts.{is_local, is_phi, is_phi_operand, phi_operand}
-use Rattle.fact_sources.specs.Candidates.{candidates}
+use Rattle.ir_facts.specs.Candidates.{candidates}
 use Rattle.fact_sources.specs.declared.fact.Fact.{Fact}
 
 -- behind an instruction that gives a local its value: there is the fact of that local, and the others that don't rest on it

@@ -11,8 +11,8 @@ use Rattle.ir_meaning.specs.Program.{Program}
 use Rattle.ir_meaning.specs.Facts.{EdgeFacts, Facts, Has, IsTarget, behind_lines, function_replaced, is_phi_operand}
 use Rattle.ir_meaning.specs.Formed.{IsFormed}
 use Rattle.ir_edit.specs.Substituted.{replacement, substituted}
-use Rattle.fact_sources.specs.Candidates.{candidates}
-use Rattle.fact_sources.specs.Settled.{IsSettled, settled}
+use Rattle.ir_facts.specs.Candidates.{candidates}
+use Rattle.ir_facts.specs.Settled.{IsSettled, settled}
 
 -- ---- facts at points
 

@@ -4,13 +4,14 @@ ghost use Rattle.std.specs.BTreeMap.{get};
 ghost use Rattle.std.specs.HashSet.{contains};
 ghost use Rattle.std.specs.Ordering.{nat_cmp};
 ghost use Rattle.ir_meaning.specs.Facts.{is_phi};
-ghost use Rattle.fact_sources.specs.Askable.{BlocksHaveWidths};
-ghost use Rattle.fact_sources.specs.Candidates.{phi_candidates};
+ghost use Rattle.ir_facts.specs.Askable.{BlocksHaveWidths};
+ghost use Rattle.ir_facts.specs.Candidates.{phi_candidates};
 ghost use Rattle.ir_facts.specs.Clear.{IsClear, any_among, block_clear, blocks_clear, entries_barred, is_taken, lines_clear, phis_barred, with_given};
 ghost use Rattle.ir_facts.specs.Scopes.{bars};
 
 use crate::scopes::{Barred, Scopes, place_of, scopes_of};
-use fact_sources::{Beside, defined, end_names, instr_names, is_among, phi_locals, push_phis};
+use crate::sources::push_phis;
+use fact_sources::{Beside, defined, end_names, instr_names, is_among, phi_locals};
 use ir_tree::{Block, Function, Incoming, Line, Operand, Phi};
 use std::alloc::{AllocError, Global};
 use std::collections::HashSet;

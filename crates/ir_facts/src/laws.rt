@@ -1,6 +1,6 @@
 //! Laws of the candidates, and of substitution by them.
 ghost use Rattle.ir_facts.specs.Agreement.{FactsMakeSteps, SolutionsAgree};
-ghost use Rattle.fact_sources.specs.Laws.{FormedHaveWidths, LineSourcesRight, PhiSourcesAreSole, PhiSourcesRight};
+ghost use Rattle.ir_facts.specs.SourceLaws.{FormedHaveWidths, LineSourcesRight, PhiSourcesAreSole, PhiSourcesRight};
 ghost use Rattle.ir_facts.specs.Points.{FactsAreOne};
 ghost use Rattle.ir_facts.specs.Steps.{AppliedIsOne, RoundsAreAll, RoundsAreBetter, SettledIsBetter, StepsAreBetter, StepsAreSound};
 

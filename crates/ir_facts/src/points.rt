@@ -8,7 +8,8 @@ ghost use Rattle.ir_facts.specs.Points.{AreFacts, EachIsFact, IsFact, line_point
 ghost use Rattle.lto_sets.specs.Sets.{contains};
 
 use crate::flow::{FactFlow, held_behind, opened, phi_of, put};
-use fact_sources::{Fact, candidates};
+use crate::sources::candidates;
+use fact_sources::Fact;
 use ir_flow::{Edges, greatest, preds};
 use ir_tree::{Block, Duplicate, Function, Line, Operand};
 use lto_sets::Bits;

@@ -8,17 +8,17 @@ ghost use Rattle.ir_meaning.specs.Formed.{IsFormed};
 ghost use Rattle.ir_flow.specs.OfFunction.{IsReach};
 ghost use Rattle.fact_sources.specs.Apart.{IsApart, resting};
 ghost use Rattle.fact_sources.specs.Substitutions.{IsOf};
-ghost use Rattle.fact_sources.specs.Candidates.{candidates};
-ghost use Rattle.fact_sources.specs.Settled.{or_same};
+ghost use Rattle.ir_facts.specs.Candidates.{candidates};
+ghost use Rattle.ir_facts.specs.Settled.{or_same};
 ghost use Rattle.ir_facts.specs.Blocks.{with_blocks};
 ghost use Rattle.ir_facts.specs.Steps.{AreRounds, IsApplied, IsRound, IsStep, candidate_of};
 
+use crate::choices::{any_choice_in, settled};
 use crate::clear::is_clear;
 use crate::in_place::{forward, with_blocks};
 use crate::points::facts_of;
-use fact_sources::{
-    Substitution, any_choice_in, apart, candidates, firm, function_at, resting, settled,
-};
+use crate::sources::candidates;
+use fact_sources::{Substitution, apart, firm, function_at, resting};
 use ir_edit::substitute;
 use ir_flow::reachable;
 use ir_tree::{Block, Duplicate, Function, Operand, Rows};

@@ -6,14 +6,14 @@ ghost use Rattle.std.specs.Ordering.{nat_cmp};
 ghost use Rattle.ir_flow.specs.Dominating.{dominance};
 ghost use Rattle.fact_sources.specs.Above.{is_above as stands_above};
 ghost use Rattle.fact_sources.specs.Apart.{is_listed};
-ghost use Rattle.fact_sources.specs.Askable.{BlocksHaveWidths, LinesHaveWidths};
-ghost use Rattle.fact_sources.specs.Candidates.{block_candidates};
+ghost use Rattle.ir_facts.specs.Askable.{BlocksHaveWidths, LinesHaveWidths};
+ghost use Rattle.ir_facts.specs.Candidates.{block_candidates};
 ghost use Rattle.ir_facts.specs.Clear.{all_inner, all_over, inner_keys, is_barred, is_over, keys_among};
 ghost use Rattle.ir_facts.specs.Scopes.{AreScopes};
 
+use crate::sources::push_block;
 use fact_sources::{
-    Beside, Locals, above, defined, is_above, is_among, places, places_by_number, push_block,
-    set_of,
+    Beside, Locals, above, defined, is_above, is_among, places, places_by_number, set_of,
 };
 use ir_flow::Dominators;
 use ir_tree::{Block, Function, Operand};

@@ -3,7 +3,7 @@ use Rattle.std.specs.BTreeMap.{get}
 use Rattle.std.specs.HashSet.{contains}
 use Rattle.std.specs.Ordering.{nat_cmp}
 use Rattle.ir_tree.specs.declared.instr.Phi.{Phi}
-use Rattle.fact_sources.specs.Candidates.{phi_candidates}
+use Rattle.ir_facts.specs.Candidates.{phi_candidates}
 use Rattle.ir_facts.specs.Clear.{any_among, phis_barred}
 use Rattle.ir_facts.specs.Scopes.{bars}
 use Rattle.ir_facts.proofs.Clearing.{block_is}

@@ -8,9 +8,8 @@ use Rattle.ir_edit.specs.Substituted.{operand_replaced, replacement}
 use Rattle.fact_sources.specs.Naming.{blocks_name}
 use Rattle.fact_sources.specs.Substitutions.{IsOf, value_in}
 use Rattle.fact_sources.specs.declared.substitution.Substitution.{Substitution}
-use Rattle.fact_sources.specs.Candidates.{blocks_candidates}
-use Rattle.ir_facts.proofs.Unnamed.{blocks_same, operand_same}
-use Rattle.ir_facts.proofs.Unused.{nothing}
+use Rattle.ir_facts.specs.Candidates.{blocks_candidates}
+use Rattle.fact_sources.proofs.Unnamed.{blocks_same, nothing, operand_same}
 use Rattle.ir_facts.proofs.in_place.forward.Goals as goal
 
 module _ (found : List (ℕ × Operand)) (s : Substitution) (bs : List Block) (are : found ≡ blocks_candidates bs) (of : IsOf found s) where

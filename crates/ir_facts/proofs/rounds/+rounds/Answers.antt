@@ -1,9 +1,9 @@
-use Rattle.std.proofs.Common.{◌-◌, nat_eq, Option, arith, refl, sym, subst}
+use Rattle.std.proofs.Common.{nat_eq, Option, arith, refl, sym, subst}
 use Rattle.std.proofs.lemmas.Bool.{false≢true}
 use Rattle.std.proofs.lemmas.Result.{IfOk-at_ok}
 use Rattle.std.specs.HashSet.{contains}
 use Rattle.ir_tree.specs.declared.function.Function.{Function}
-use Rattle.fact_sources.specs.Settled.{or_same}
+use Rattle.ir_facts.specs.Settled.{or_same}
 use Rattle.ir_facts.specs.Steps.{AreRounds, IsRound}
 use Rattle.ir_facts.proofs.InRounds.{last_round, no_rounds, one_more, round_sound}
 use Rattle.ir_facts.proofs.StillApart.{round_apart}

@@ -1,10 +1,10 @@
-use Rattle.std.proofs.Common.{◌≡◌, ◌-◌, false, nat_eq, sym, ◌∙◌, ap, arith, subst}
+use Rattle.std.proofs.Common.{◌≡◌, false, nat_eq, sym, ◌∙◌, ap, arith, subst}
 use Rattle.std.specs.Result.{IfOk}
 use Rattle.std.proofs.lemmas.Bool.{false≢true}
 use Rattle.ir_tree.specs.declared.function.Function.{Function}
 use Rattle.std.specs.HashSet.{contains}
-use Rattle.fact_sources.specs.Askable.{BlocksHaveWidths}
-use Rattle.fact_sources.specs.Settled.{any_choice_in}
+use Rattle.ir_facts.specs.Askable.{BlocksHaveWidths}
+use Rattle.ir_facts.specs.Settled.{any_choice_in}
 use Rattle.ir_facts.specs.Blocks.{with_blocks}
 use Rattle.ir_facts.specs.Steps.{AreRounds}
 use Rattle.ir_facts.proofs.InPlace.{place_last, place_round}

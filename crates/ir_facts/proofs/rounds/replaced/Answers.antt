@@ -11,7 +11,7 @@ use Rattle.fact_sources.specs.Apart.{resting}
 use Rattle.fact_sources.specs.Substitutions.{IsOf, value_in}
 use Rattle.fact_sources.specs.declared.substitution.Substitution.{Substitution}
 use Rattle.fact_sources.proofs.NoneNamed.{empty_list}
-use Rattle.fact_sources.specs.Candidates.{candidates}
+use Rattle.ir_facts.specs.Candidates.{candidates}
 use Rattle.ir_facts.specs.Steps.{IsStep, candidate_of, step_of}
 use Rattle.ir_facts.proofs.Parting.{step_clear, step_everywhere}
 use Rattle.ir_facts.proofs.Widths.{formed_wide}

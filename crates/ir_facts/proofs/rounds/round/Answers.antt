@@ -6,8 +6,8 @@ use Rattle.std.specs.HashSet.{contains}
 use Rattle.ir_tree.specs.Rules.{Sound}
 use Rattle.ir_tree.specs.declared.function.Function.{Function}
 use Rattle.fact_sources.specs.Apart.{IsApart}
-use Rattle.fact_sources.specs.Settled.{settled}
-use Rattle.fact_sources.specs.Settled.{or_same}
+use Rattle.ir_facts.specs.Settled.{settled}
+use Rattle.ir_facts.specs.Settled.{or_same}
 use Rattle.ir_facts.specs.Steps.{IsRound, IsStep, candidate_of}
 use Rattle.ir_facts.proofs.SettledSound.{settled_sound}
 use Rattle.ir_facts.proofs.Settling.{apart_settled}

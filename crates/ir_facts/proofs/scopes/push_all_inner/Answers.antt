@@ -1,6 +1,6 @@
 use Rattle.std.proofs.Common.{◌+◌, refl, drop, nat_eq, ◌∙◌, subst}
 use Rattle.std.specs.HashSet.{contains}
-use Rattle.fact_sources.specs.Askable.{BlocksHaveWidths}
+use Rattle.ir_facts.specs.Askable.{BlocksHaveWidths}
 use Rattle.ir_facts.proofs.Walking.{cut_at, inner_pushed}
 use Rattle.ir_facts.specs.Clear.{all_inner}
 use Rattle.ir_facts.proofs.Walking.{walked}

@@ -1,6 +1,6 @@
 use Rattle.std.proofs.Common.{◌≡◌, ◌++◌, drop, nat_eq}
 use Rattle.std.specs.HashSet.{contains}
-use Rattle.fact_sources.specs.Askable.{BlocksHaveWidths}
+use Rattle.ir_facts.specs.Askable.{BlocksHaveWidths}
 use Rattle.ir_facts.specs.Clear.{all_inner}
 use Rattle.ir_facts.proofs.scopes.push_all_inner.Given as goal
 

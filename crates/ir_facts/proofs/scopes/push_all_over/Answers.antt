@@ -5,7 +5,7 @@ use Rattle.std.specs.Ordering.{nat_cmp}
 use Rattle.ir_tree.specs.declared.block.Block.{Block}
 use Rattle.ir_flow.specs.Dominating.{dominance}
 use Rattle.fact_sources.specs.Above.{is_above}
-use Rattle.fact_sources.specs.Askable.{BlocksHaveWidths}
+use Rattle.ir_facts.specs.Askable.{BlocksHaveWidths}
 use Rattle.ir_facts.proofs.Clearing.{over_pushed}
 use Rattle.ir_facts.specs.Clear.{all_over}
 use Rattle.ir_facts.proofs.Walking.{walked}

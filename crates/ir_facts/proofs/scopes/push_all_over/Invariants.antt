@@ -3,7 +3,7 @@ use Rattle.std.specs.BTreeMap.{get}
 use Rattle.std.specs.Ordering.{nat_cmp}
 use Rattle.ir_flow.specs.Dominating.{dominance}
 use Rattle.fact_sources.specs.Above.{is_above}
-use Rattle.fact_sources.specs.Askable.{BlocksHaveWidths}
+use Rattle.ir_facts.specs.Askable.{BlocksHaveWidths}
 use Rattle.ir_facts.specs.Clear.{all_over}
 use Rattle.ir_facts.proofs.scopes.push_all_over.Given as goal
 
