@@ -1,51 +1,24 @@
-//! The program `thinlto`: the link, batches of links, the index and the run of modules.
+//! The program `thinlto`: the linker's one call (`thinlto_main`) over the real outside.
 //!
-//! [`top`] is the program's one call: it takes the words of the command line and the outside as five objects; `main`
-//! makes the real objects, has it called, and ends with the status's number. Words are told by `lto_words`; a command
-//! fetches its files in order, once per occurrence (`lto_words`), and reads each (`link_one`), and by the modules'
-//! summaries it is decided what is kept and imported (`thin_link`). `link` puts the linked module, `batch` those of the
-//! links that its list file lists, once all are made, `index` prints what was decided, and `run` runs the modules
-//! together (`run_program`). Links are compiled over one cache of the command (`cache_slot`), in memory or in a
-//! directory.
+//! `main` makes the real objects (`outside_real`): files, the disk of a cache, standard input and output, and notes on
+//! standard error. It has [`top`] called with the words behind the program's own name, and ends with the status's number.
+//! Words that can't be had are one empty word, which is no command.
 //!
-//! **Promise.** Which answer comes when is one definition by cases on the command ([`top`], `specs/Answers`). Of a
-//! link, for any number of modules: the bytes put are the text of the linked module and of no other, and each run of
-//! the linked program is a run of what the modules mean together (`specs/Linking`); over a directory, where its disk
-//! was honest (`specs/Honest`). A run is the definition's, with 0 as every free choice. What files that tell hold is
-//! said in `specs/Telling`, what a cache's disk holds in `specs/Keys`; tasks with one text are one
-//! ([`tasks_are_told`]).
+//! **Promise.** That of `thinlto_main::top`, whose condition on the disk is proved here: entries mean what a link makes
+//! of their tasks.
 //!
-//! **Cost.** Beside the link itself each byte is moved once; modules are copied once where they are merged. Want of
-//! memory is answered with a status of its own, before anything is put or printed, or in a run or behind it.
+//! **Cost.** That of the call. The words are copied once.
 //!
-//! **Not shown.** That memory is found, and how long a command takes, which `bench/` measures. That real files keep
-//! what was put (`outside_real`). That the definition of meaning is LLVM's, which `checks/` compares.
+//! **Not shown.** That real files, streams and a cache directory keep and give what was written (`outside_real`), and
+//! that `main` does no more than is said here: it has no clause, and is read.
 #![tactic(auto)]
 
 ghost use Rattle.std.specs.Prelude.{◌≡◌, ◌↔◌, ◌∷◌, ℕ, [], List, MatchOption};
 ghost use Rattle.thinlto_main.specs.Exit.{exit_of};
 ghost use Rattle.thinlto_main.specs.Honest.{HonestEntry};
 
-mod batch;
-mod cache;
-#[cfg(test)]
-mod cache_tests;
-mod command;
-mod entry;
-mod index;
-mod link;
-mod modules;
-mod run;
-mod status;
-mod tasks;
-#[cfg(test)]
-mod tests;
-
-pub use cache::LinkMakes;
-pub use entry::{Ended, top};
 use lto_outside::{ByteIn, ByteOut, CacheDisk, Files, Gate};
 use outside_real::{RealDisk, RealFiles, RealGate, RealIn, RealOut};
-pub use status::{Status, status_of};
 use std::alloc::Global;
 use std::process::ExitCode;
 use std::rt::Env;
@@ -53,7 +26,7 @@ use std::slice::from_ref;
 use std::sync::Wait;
 use std::thread::Threads;
 use std::{env, io};
-pub use tasks::{tasks_are_spelled, tasks_are_told};
+use thinlto_main::{Ended, LinkMakes, status_of, top};
 
 /// The words behind the program's own name, unless they can't be had.
 fn all_words<R: Env + AllocGlobal>(rt: &R, alloc: Global) -> Option<Vec<String>> {

@@ -1,12 +1,12 @@
 //! Links over a cache on a disk in memory: cold and warm, with any number of workers, and where the disk fails.
 
-use crate::tests::{EMPTY, NONE, NOTHING, files_of, holds, input_of, output_of, words_of};
-use crate::{LinkMakes, status_of, top};
+use crate::tables::{EMPTY, NONE, NOTHING, files_of, holds, input_of, output_of, words_of};
 use lto_outside::Stage;
 use outside_memory::{Failure, Leaves, MemoryDisk, MemoryGate, MemoryOut};
 use std::alloc::{AllocError, Global};
 use std::sync::Wait;
 use std::thread::Threads;
+use thinlto_main::{LinkMakes, status_of, top};
 
 const MAIN: &[u8] =
     b"define i32 @main() {\n  %r = call i32 @f(i32 4)\n  ret i32 %r\n}\ndeclare i32 @f(i32)\n";

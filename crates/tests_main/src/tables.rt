@@ -1,11 +1,11 @@
 //! The one call over the outside in memory, by tables: texts and what they link to or are refused for, words, files of which
 //! there is an index or none, and modules that run, one or several together.
 
-use crate::{LinkMakes, status_of, top};
 use outside_memory::{Failure, Leaves, MemoryDisk, MemoryFiles, MemoryGate, MemoryIn, MemoryOut};
 use std::alloc::{AllocError, Global};
 use std::sync::Wait;
 use std::thread::Threads;
+use thinlto_main::{LinkMakes, status_of, top};
 
 /// What `a.ll` and `b.ll` hold, and the numbers of the call of the files and of the push to the output that fail, counted
 /// from 0.
