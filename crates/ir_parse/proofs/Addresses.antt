@@ -4,9 +4,9 @@ use Rattle.std.specs.List.{AllByRecursion as Each}
 use Rattle.std.specs.Prelude.{IfSome}
 use Rattle.std.proofs.lemmas.List.Elements.{All-from_recursion}
 use Rattle.ir_lex.specs.Tok.{Tok}
-use Rattle.ir_parse_instructions.specs.Addressing.{addressing, attaching, behind_comma, further, indexing, indices, keep, many_slots, one_slot, reserving, slots_behind, slots_fit}
+use Rattle.ir_parse_operands.specs.Addressing.{addressing, attaching, behind_comma, further, indexing, indices, keep, many_slots, one_slot, reserving, slots_behind, slots_fit}
 use Rattle.ir_parse_operands.specs.ShapeForms.{memory_shape}
-use Rattle.ir_parse_instructions.specs.declared.addressing.Slots.{Slots}
+use Rattle.ir_parse_operands.specs.declared.addressing.Slots.{Slots}
 use Rattle.ir_tree.specs.declared.operand.Reg.TheVariants.{Ptr}
 use Rattle.ir_parse.specs.Written.{AlignWritten, ArgumentWritten}
 use Rattle.ir_parse.proofs.Alignments.{align_written, aligned_written}

@@ -10,7 +10,7 @@ use Rattle.ir_parse_parts.specs.Forms as form
 use Rattle.ir_parse_parts.specs.declared.fault.TokenFault.TheVariants.{Number}
 use Rattle.ir_parse_parts.specs.Classes.{refusal}
 use Rattle.ir_parse_parts.specs.Decimals.{ALIGNMENTS, alignment_of, decimal, is_alignment}
-use Rattle.ir_parse_instructions.specs.Instructions as instructions
+use Rattle.ir_parse_operands.specs.Alignments as alignments
 use Rattle.ir_tree.specs.Formed.{IsAlignment}
 use Rattle.ir_parse.specs.Written.{AlignWritten}
 use Rattle.ir_parse.proofs.Means.{Means, accepted, either_means, follow, nothing, skip, token_means}
@@ -49,10 +49,10 @@ pub alignment_written : Means (form.token is_alignment) IsAlignment
 unfolding is_alignment
 alignment_written = token_means (λ t n s h. number_written t.text n (accepted (nat_eq (number t.kind) (number kinds.Number)) (alignment_of t.text) (refusal (number t.kind)) n h).1)
 
-pub aligned_written : Means instructions.aligned AlignWritten
-unfolding instructions.aligned
+pub aligned_written : Means alignments.aligned AlignWritten
+unfolding alignments.aligned
 aligned_written = either_means (skip _ (λ _. follow alignment_written (λ n h. skip _ (λ _. nothing h)))) (skip _ (λ _. skip _ (λ _. nothing tt)))
 
-pub align_written : Means instructions.align AlignWritten
-unfolding instructions.align
+pub align_written : Means alignments.align AlignWritten
+unfolding alignments.align
 align_written = either_means (skip _ (λ _. aligned_written)) (nothing tt)

@@ -13,14 +13,14 @@ use Rattle.ir_parse_parts.specs.Lawful.{IsBound}
 use Rattle.ir_parse_parts.specs.Rules.{in_range, is_class, is_valued}
 use Rattle.ir_parse_parts.specs.declared.fault.TokenFault.TheVariants.{Number, Limit}
 use Rattle.ir_parse_parts.specs.declared.fault.TokenFault.{TokenFault}
-use Rattle.ir_parse_instructions.specs.Addressing.{slots_fit, any_slots, one_slot, slots_behind, reserving, indexing, attaching, behind_comma, further, indices, addressing, fitting, is_count, count_in, many_slots}
-use Rattle.ir_parse_instructions.specs.AddressingAt.{begins, one_slot_at, slots_behind_at, reserving_at, indexing_at, attaching_at, behind_comma_at, further_at, indices_at, addressing_at, passes, count_means, count_in_at, many_slots_at}
+use Rattle.ir_parse_operands.specs.Addressing.{slots_fit, any_slots, one_slot, slots_behind, reserving, indexing, attaching, behind_comma, further, indices, addressing, fitting, is_count, count_in, many_slots}
+use Rattle.ir_parse_operands.specs.AddressingAt.{begins, one_slot_at, slots_behind_at, reserving_at, indexing_at, attaching_at, behind_comma_at, further_at, indices_at, addressing_at, passes, count_means, count_in_at, many_slots_at}
 use Rattle.ir_parse_parts.specs.Ahead.{ALIGNED}
 use Rattle.ir_parse_parts.specs.Classes.{tokens, refusal}
 use Rattle.ir_parse_parts.specs.Literals.{literal}
 use Rattle.ir_parse_parts.specs.Metadata.{META}
 use Rattle.ir_parse_parts.specs.MetadataAt.{COMMA}
-use Rattle.ir_parse_instructions.specs.Phis as phis
+use Rattle.ir_parse_operands.specs.Adding as adding
 use Rattle.ir_parse_operands.specs.ShapeForms.{any_shape, NUMBER, counted, count_of}
 use Rattle.ir_parse_parts.specs.Shapes.{Written, pointer}
 use Rattle.ir_parse_parts.specs.declared.raw.Argument.{Argument}
@@ -127,8 +127,8 @@ further_some : (s : Bool) (x : Option Argument × Bool) → further any_shape s 
 unfolding further
 further_some s x q = token_begins (is_class tokens refusal (number kinds.Comma)) _ x q
 
-pub more_exchanged : Exchanges (Chain phis.anywhere (further any_shape) false) (chain_at phis.anywhere begins further_at false)
-more_exchanged = chain phis.anywhere (λ _. COMMA) (further any_shape) further_at further_exchanged further_some (λ _. ([], [], (refl, refl), tt)) (λ _ _. refl) false
+pub more_exchanged : Exchanges (Chain adding.anywhere (further any_shape) false) (chain_at adding.anywhere begins further_at false)
+more_exchanged = chain adding.anywhere (λ _. COMMA) (further any_shape) further_at further_exchanged further_some (λ _. ([], [], (refl, refl), tt)) (λ _ _. refl) false
 
 pub indices_exchanged : Exchanges (indices any_shape) indices_at
 unfolding indices indices_at

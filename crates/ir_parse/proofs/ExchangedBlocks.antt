@@ -11,7 +11,7 @@ use Rattle.ir_parse_parts.specs.Forms as form
 use Rattle.ir_parse_parts.specs.Forms.{Form}
 use Rattle.ir_parse_parts.specs.Readers.{Reader, ◌>>=◌}
 use Rattle.ir_parse_parts.specs.Rules.{in_range, is_valued}
-use Rattle.ir_parse_instructions.specs.Addressing.{any_slots}
+use Rattle.ir_parse_operands.specs.Addressing.{any_slots}
 use Rattle.ir_parse_parts.specs.Classes.{tokens, refusal, the, the_at}
 use Rattle.ir_parse_parts.specs.Operands.{named}
 use Rattle.ir_parse_heads.specs.declared.function_heads.Role.TheVariants as roles

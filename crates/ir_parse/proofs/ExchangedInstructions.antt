@@ -8,10 +8,10 @@ use Rattle.ir_tree.specs.declared.instr.Flags.{Flags}
 use Rattle.ir_tree.specs.declared.operand.Reg.TheVariants.{Int}
 use Rattle.ir_parse_parts.specs.Ahead.{WRAPS}
 use Rattle.ir_parse_parts.specs.Classes.{one_of, one_of_at}
-use Rattle.ir_parse_instructions.specs.Instructions.{is_nuw, PREDICATES, predicate_of, wraps, on_two, wrapping, dividing, joining, comparing, casting, extending, narrowing, selecting, freezing}
-use Rattle.ir_parse_instructions.specs.InstructionsAt.{wraps_at, on_two_at, wrapping_at, dividing_at, joining_at, comparing_at, casting_at, extending_at, narrowing_at, selecting_at, freezing_at}
+use Rattle.ir_parse_bodies.specs.Instructions.{is_nuw, PREDICATES, predicate_of, wraps, on_two, wrapping, dividing, joining, comparing, casting, extending, narrowing, selecting, freezing}
+use Rattle.ir_parse_bodies.specs.InstructionsAt.{wraps_at, on_two_at, wrapping_at, dividing_at, joining_at, comparing_at, casting_at, extending_at, narrowing_at, selecting_at, freezing_at}
 use Rattle.ir_parse_operands.specs.ShapeForms.{any_shape}
-use Rattle.ir_parse_instructions.proofs.InstructionRules.{wrap_rule}
+use Rattle.ir_parse_bodies.proofs.InstructionRules.{wrap_rule}
 use Rattle.ir_parse_parts.proofs.Singles.{word}
 use Rattle.ir_parse_parts.proofs.Words.{equal_real}
 use Rattle.ir_parse.proofs.Exchanged.{Exchanges, nothing, seq, star, taken}

@@ -9,7 +9,7 @@ use Rattle.ir_parse_parts.specs.Alphabet.{among, contains}
 use Rattle.ir_parse_parts.specs.Forms as form
 use Rattle.ir_parse_parts.specs.Rules.{is_among, is_class}
 use Rattle.ir_parse_parts.specs.declared.fault.TokenFault.{TokenFault}
-use Rattle.ir_parse_instructions.specs.Addressing.{any_slots}
+use Rattle.ir_parse_operands.specs.Addressing.{any_slots}
 use Rattle.ir_parse_parts.specs.Classes.{one_of, refusal, the, tokens}
 use Rattle.ir_parse_parts.specs.Operands.{LOCAL, named}
 use Rattle.ir_parse_parts.specs.OperandsAt.{local_at}

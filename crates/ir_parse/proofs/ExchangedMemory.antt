@@ -1,8 +1,10 @@
 -- The readers of loads and stores tell a token that is left out in some places where one that it stands for goes on.
 use Rattle.std.proofs.Common.{None, refl}
 use Rattle.ir_tree.specs.declared.operand.Reg.TheVariants.{Ptr}
-use Rattle.ir_parse_instructions.specs.Instructions.{aligned, align, loading, storing}
-use Rattle.ir_parse_instructions.specs.InstructionsAt.{ALIGN, aligned_at, align_at, loading_at, storing_at}
+use Rattle.ir_parse_operands.specs.Alignments.{aligned, align}
+use Rattle.ir_parse_bodies.specs.Instructions.{loading, storing}
+use Rattle.ir_parse_operands.specs.AlignmentsAt.{ALIGN, aligned_at, align_at}
+use Rattle.ir_parse_bodies.specs.InstructionsAt.{loading_at, storing_at}
 use Rattle.ir_parse_parts.specs.MetadataAt.{COMMA}
 use Rattle.ir_parse_operands.specs.ShapeForms.{any_shape}
 use Rattle.ir_parse.proofs.Exchanged.{Exchanges, alt, nothing, seq}

@@ -8,9 +8,9 @@ use Rattle.ir_parse_parts.specs.Rules.{is_class}
 use Rattle.ir_parse_parts.specs.Classes.{tokens, refusal}
 use Rattle.ir_parse_parts.specs.Metadata.{META}
 use Rattle.ir_parse_parts.specs.MetadataAt.{COMMA}
-use Rattle.ir_parse_instructions.specs.Phis as phis
-use Rattle.ir_parse_instructions.specs.Phis.{incoming, attaching, entering, behind_comma, further, entries, phi_of, phi}
-use Rattle.ir_parse_instructions.specs.PhisAt.{begins, incoming_at, attaching_at, entering_at, behind_comma_at, further_at, entries_at, phi_of_at, phi_at}
+use Rattle.ir_parse_operands.specs.Adding as adding
+use Rattle.ir_parse_bodies.specs.Phis.{incoming, attaching, entering, behind_comma, further, entries, phi_of, phi}
+use Rattle.ir_parse_bodies.specs.PhisAt.{begins, incoming_at, attaching_at, entering_at, behind_comma_at, further_at, entries_at, phi_of_at, phi_at}
 use Rattle.ir_parse_operands.specs.ShapeForms.{any_shape}
 use Rattle.ir_parse_parts.specs.declared.raw.Incoming.{Incoming}
 use Rattle.ir_parse.proofs.Exchanged.{Exchanges, alt, nothing, seq, token_begins}
@@ -44,8 +44,8 @@ further_some : (r : Reg) (s : Bool) (x : Option Incoming × Bool) → further an
 unfolding further
 further_some r s x q = token_begins (is_class tokens refusal (number kinds.Comma)) _ x q
 
-pub more_exchanged : (r : Reg) → Exchanges (Chain phis.anywhere (further any_shape r) false) (chain_at phis.anywhere begins (further_at r) false)
-more_exchanged r = chain phis.anywhere (λ _. COMMA) (further any_shape r) (further_at r) (further_exchanged r) (further_some r) (λ _. ([], [], (refl, refl), tt)) (λ _ _. refl) false
+pub more_exchanged : (r : Reg) → Exchanges (Chain adding.anywhere (further any_shape r) false) (chain_at adding.anywhere begins (further_at r) false)
+more_exchanged r = chain adding.anywhere (λ _. COMMA) (further any_shape r) (further_at r) (further_exchanged r) (further_some r) (λ _. ([], [], (refl, refl), tt)) (λ _ _. refl) false
 
 pub entries_exchanged : (r : Reg) (first : Incoming) → Exchanges (entries any_shape r first) (entries_at r first)
 unfolding entries entries_at

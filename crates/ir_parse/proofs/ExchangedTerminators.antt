@@ -17,14 +17,14 @@ use Rattle.ir_parse_parts.specs.Classes.{IsReal}
 use Rattle.ir_parse_parts.specs.Operands.{reg_of}
 use Rattle.ir_parse_parts.specs.OperandsAt.{reg_at}
 use Rattle.ir_parse_operands.specs.ShapeForms.{any_shape}
-use Rattle.ir_parse_instructions.specs.Terminators.{ENDS, case_classes, matched_of, ending_of, returned, returning, target, branching, constant, case_of, case, switching, behind_end, terminator}
-use Rattle.ir_parse_instructions.specs.TerminatorsAt.{LABEL, returned_at, returning_at, target_at, branching_at, constant_at, case_of_at, case_at, switching_at, behind_end_at, terminator_at}
+use Rattle.ir_parse_operands.specs.Terminators.{ENDS, case_classes, matched_of, ending_of, returned, returning, target, branching, constant, case_of, case, switching, behind_end, terminator}
+use Rattle.ir_parse_operands.specs.TerminatorsAt.{LABEL, returned_at, returning_at, target_at, branching_at, constant_at, case_of_at, case_at, switching_at, behind_end_at, terminator_at}
 use Rattle.ir_parse_parts.specs.declared.raw.Terminator.TheVariants as terminators
-use Rattle.ir_parse_instructions.specs.declared.terminators.End.TheVariants as end
-use Rattle.ir_parse_instructions.specs.declared.terminators.End.{End}
-use Rattle.ir_parse_instructions.specs.declared.terminators.Ended.{Ended}
+use Rattle.ir_parse_operands.specs.declared.terminators.End.TheVariants as end
+use Rattle.ir_parse_operands.specs.declared.terminators.End.{End}
+use Rattle.ir_parse_operands.specs.declared.terminators.Ended.{Ended}
 use Rattle.ir_parse_parts.proofs.Singles.{word}
-use Rattle.ir_parse_instructions.proofs.TerminatorRules.{case_rule, constant_rule}
+use Rattle.ir_parse_operands.proofs.TerminatorRules.{case_rule, constant_rule}
 use Rattle.ir_parse.proofs.Exchanged.{Exchanges, alt, nothing, seq, taken, is_target}
 use Rattle.ir_parse.proofs.ExchangedNodes.{attachments_exchanged}
 use Rattle.ir_parse.proofs.ExchangedOperands.{bit_exchanged, integer_exchanged, local_exchanged, reg_exchanged, result_exchanged}

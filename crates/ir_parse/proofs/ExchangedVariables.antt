@@ -13,7 +13,7 @@ use Rattle.ir_parse_parts.specs.Readers.{pick}
 use Rattle.ir_parse_parts.specs.Rules.{is_class}
 use Rattle.ir_parse_parts.specs.Classes.{tokens, the, the_at, one_of, one_of_at}
 use Rattle.ir_parse_heads.specs.FunctionHeads.{LINKAGES, linkage_word, QUALIFIERS, nothing_of}
-use Rattle.ir_parse_instructions.specs.InstructionsAt.{ALIGN}
+use Rattle.ir_parse_operands.specs.AlignmentsAt.{ALIGN}
 use Rattle.ir_parse_parts.specs.MetadataAt.{COMMA, PAREN}
 use Rattle.ir_parse_parts.specs.Operands.{global_named}
 use Rattle.ir_parse_operands.specs.ShapeForms.{any_shape}

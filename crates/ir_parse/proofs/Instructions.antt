@@ -2,7 +2,7 @@
 use Rattle.std.proofs.Common.{◌≡◌, ℕ, Bool, true, false, inl, inr, List, [], ◌∷◌, Option, None, refl, arith}
 use Rattle.std.specs.List.{fold}
 use Rattle.ir_lex.specs.Tok.{Tok}
-use Rattle.ir_parse_instructions.specs.Instructions.{casting, comparing, dividing, extending, flags, freezing, joining, loading, narrowing, no_flags, on_two, selecting, storing, with_wrap, wrapping, wraps}
+use Rattle.ir_parse_bodies.specs.Instructions.{casting, comparing, dividing, extending, flags, freezing, joining, loading, narrowing, no_flags, on_two, selecting, storing, with_wrap, wrapping, wraps}
 use Rattle.ir_parse_operands.specs.ShapeForms.{memory_shape}
 use Rattle.ir_parse_parts.specs.declared.raw.Instr.{Instr}
 use Rattle.ir_tree.specs.Formed.{FlagsFormed, IsReg, IsScalar, IsStored, IsWidth}

@@ -12,8 +12,8 @@ use Rattle.ir_lex.specs.declared.token_kind.TokenKind.{TokenKind}
 use Rattle.ir_lex.specs.declared.token_kind.TokenKind.TheVariants as kinds
 use Rattle.ir_parse_parts.specs.Alphabet.{contains}
 use Rattle.ir_parse_parts.specs.Forms.{Form}
-use Rattle.ir_parse_instructions.specs.Addressing.{slots_fit}
-use Rattle.ir_parse_instructions.specs.Instructions.{flags, no_flags, storing}
+use Rattle.ir_parse_operands.specs.Addressing.{slots_fit}
+use Rattle.ir_parse_bodies.specs.Instructions.{flags, no_flags, storing}
 use Rattle.ir_parse_operands.specs.ShapeForms.{memory_shape}
 use Rattle.ir_parse_parts.specs.declared.raw.Instr.{Instr}
 use Rattle.ir_tree.specs.Formed.{FlagsFormed}

@@ -20,7 +20,7 @@ use Rattle.ir_parse_parts.specs.Rules.{Rule, disjoint, in_range, is_among, is_cl
 use Rattle.ir_parse_parts.specs.declared.fault.Fault.{Fault}
 use Rattle.ir_parse_parts.specs.declared.fault.TokenFault.TheVariants.{Syntax, Profile, Limit}
 use Rattle.ir_parse_parts.specs.declared.fault.TokenFault.{TokenFault}
-use Rattle.ir_parse_instructions.specs.Addressing.{any_slots}
+use Rattle.ir_parse_operands.specs.Addressing.{any_slots}
 use Rattle.ir_parse_heads.specs.AttributesAt.{definition_attributes_at}
 use Rattle.ir_parse_parts.specs.Classes.{NUMERALS, itself, one_of, one_of_at, refusal, the, tokens}
 use Rattle.ir_parse_heads.specs.FunctionHeads.{end_of_none}
@@ -31,7 +31,7 @@ use Rattle.ir_parse_parts.specs.OperandsAt.{local_at, result_at}
 use Rattle.ir_parse_operands.specs.ShapeForms.{any_shape}
 use Rattle.ir_parse_operands.specs.ValuesAt.{ADDRESS, address_at}
 use Rattle.ir_parse_heads.specs.declared.function_heads.Role.TheVariants as roles
-use Rattle.ir_parse_instructions.specs.Terminators.{ENDS}
+use Rattle.ir_parse_operands.specs.Terminators.{ENDS}
 use Rattle.ir_parse_parts.specs.declared.places.Before.TheVariants as befores
 use Rattle.ir_parse_parts.specs.declared.places.Before.{Before}
 use Rattle.ir_parse_parts.specs.declared.places.Position.{Position}
@@ -42,7 +42,7 @@ use Rattle.ir_parse_heads.proofs.AttributeRules.{definition_attributes_rule}
 use Rattle.ir_parse_heads.proofs.FunctionHeadRules.{head_rule}
 use Rattle.ir_parse_parts.proofs.OperandRules.{result_rule, type_not_limit, type_not_number}
 use Rattle.ir_parse_parts.proofs.Singles.{close_paren_real, close_paren_rule, equals_rule, mark, not_limit, not_number, one_rule, open_brace_rule, open_paren_rule, sample, word}
-use Rattle.ir_parse_instructions.proofs.TerminatorRules.{terminator_rule}
+use Rattle.ir_parse_operands.proofs.TerminatorRules.{terminator_rule}
 use Rattle.ir_parse_parts.proofs.Words.{int_32_real}
 use Rattle.ir_parse_bodies.specs.Blocks.{FURTHER_BLOCKS, INSTRUCTIONS, LABEL, any_block, any_block_behind, any_label, any_lines, any_local, at_will, block, block_behind, block_of, keep, label, lines, with_kept}
 use Rattle.ir_parse_bodies.specs.BlocksAt.{BLOCK, DEFINE, all_lines_at, block_at, block_behind_at, blocks_at, blocks_behind_at, defined_at, definition_at, further_blocks_at, label_at, lines_at}

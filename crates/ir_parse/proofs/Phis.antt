@@ -4,7 +4,7 @@ use Rattle.std.specs.List.{AllByRecursion as Each}
 use Rattle.std.specs.Prelude.{IfSome}
 use Rattle.std.proofs.lemmas.List.Elements.{All-from_recursion}
 use Rattle.ir_lex.specs.Tok.{Tok}
-use Rattle.ir_parse_instructions.specs.Phis.{attaching, behind_comma, entering, entries, further, incoming, keep, phi, phi_of}
+use Rattle.ir_parse_bodies.specs.Phis.{attaching, behind_comma, entering, entries, further, incoming, keep, phi, phi_of}
 use Rattle.ir_parse_operands.specs.ShapeForms.{memory_shape}
 use Rattle.ir_parse_parts.specs.declared.raw.Incoming.{Incoming}
 use Rattle.ir_tree.specs.Formed.{IsReg}

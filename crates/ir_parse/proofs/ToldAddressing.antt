@@ -10,19 +10,19 @@ use Rattle.ir_parse_parts.specs.Ahead.{ALIGNED}
 use Rattle.ir_parse_parts.specs.Classes.{tokens, refusal}
 use Rattle.ir_parse_parts.specs.declared.raw.Operand.{Operand}
 use Rattle.ir_parse_parts.specs.declared.shape.Typed.{Typed}
-use Rattle.ir_parse_instructions.specs.Addressing.{slots_fit, is_count, fitting_count}
+use Rattle.ir_parse_operands.specs.Addressing.{slots_fit, is_count, fitting_count}
 use Rattle.ir_parse.proofs.ToldInstructions.{aligned_told, align_told}
 use Rattle.ir_parse_parts.specs.Metadata.{META}
 use Rattle.ir_parse_parts.specs.MetadataAt.{COMMA}
 use Rattle.ir_parse.proofs.ToldMetadata.{attached_told}
 use Rattle.ir_parse.proofs.ToldOperands.{integer_told}
-use Rattle.ir_parse_instructions.specs.Phis as phis
+use Rattle.ir_parse_operands.specs.Adding as adding
 use Rattle.ir_parse_operands.specs.ShapeForms.{NUMBER}
 use Rattle.ir_parse.proofs.ToldShapeForms.{memory_shape_told}
 use Rattle.ir_parse.proofs.ToldValues.{pointer_told, stepping_told, operand_told, argument_told}
-use Rattle.ir_parse_instructions.specs.AddressingAt.{too_many, count_means, count_in_at, many_slots_at, one_slot_at, slots_behind_at, reserving_at, indexing_at, attaching_at, behind_comma_at, further_at, begins, indices_at, stepped_at, stepping_by_at, addressing_at}
+use Rattle.ir_parse_operands.specs.AddressingAt.{too_many, count_means, count_in_at, many_slots_at, one_slot_at, slots_behind_at, reserving_at, indexing_at, attaching_at, behind_comma_at, further_at, begins, indices_at, stepped_at, stepping_by_at, addressing_at}
 use Rattle.std.proofs.Common.{Err, cond, Bool, true, false, ◌≡◌, refl}
-use Rattle.ir_parse_instructions.proofs.AddressingRules.{further_rule}
+use Rattle.ir_parse_operands.proofs.AddressingRules.{further_rule}
 
 count_means_allowed : (fits : ℕ → Bool) (w : ℕ) (t : Tok) → AllowedBy t (count_means fits w t)
 unfolding count_means
@@ -70,7 +70,7 @@ further_told s = seq (the_told kinds.Comma) (λ _. behind_comma_told s)
 
 pub indices_told : Tells indices_at
 unfolding indices_at
-indices_told = seq (chain phis.anywhere begins (λ s. further_told s) (λ s. takes_of (further_rule s)) false) (λ all. nothing _)
+indices_told = seq (chain adding.anywhere begins (λ s. further_told s) (λ s. takes_of (further_rule s)) false) (λ all. nothing _)
 
 pub stepped_told : (inbounds : Bool) → (typed : Typed) → (base : Operand) → Tells (stepped_at inbounds typed base)
 stepped_told inbounds typed base = seq indices_told (λ is. nothing _)

@@ -14,12 +14,13 @@ use Rattle.ir_parse_parts.specs.Classes.{tokens}
 use Rattle.ir_parse_parts.specs.Decimals.{is_alignment}
 use Rattle.ir_parse_parts.specs.declared.raw.Argument.{Argument}
 use Rattle.ir_parse_parts.specs.declared.raw.Operand.{Operand}
-use Rattle.ir_parse_instructions.specs.Instructions.{is_nuw, flags, no_flags, PREDICATES, predicate_of}
+use Rattle.ir_parse_bodies.specs.Instructions.{is_nuw, flags, no_flags, PREDICATES, predicate_of}
 use Rattle.ir_parse_parts.specs.MetadataAt.{COMMA}
 use Rattle.ir_parse.proofs.ToldMetadata.{attached_told, attachments_told}
 use Rattle.ir_parse.proofs.ToldOperands.{reg_told, integer_told, bit_told, scalar_told, maybe_told}
 use Rattle.ir_parse.proofs.ToldValues.{pointer_told, operand_told, argument_told}
-use Rattle.ir_parse_instructions.specs.InstructionsAt.{ALIGN, wraps_at, on_two_at, wrapping_at, dividing_at, joining_at, comparing_at, casting_at, extending_at, narrowing_at, other_at, arms_at, selecting_at, freezing_at, aligned_at, align_at, loading_at, stored_at, storing_to_at, storing_at}
+use Rattle.ir_parse_operands.specs.AlignmentsAt.{ALIGN, aligned_at, align_at}
+use Rattle.ir_parse_bodies.specs.InstructionsAt.{wraps_at, on_two_at, wrapping_at, dividing_at, joining_at, comparing_at, casting_at, extending_at, narrowing_at, other_at, arms_at, selecting_at, freezing_at, loading_at, stored_at, storing_to_at, storing_at}
 use Rattle.std.proofs.Common.{refl}
 
 pub wraps_told : Tells wraps_at

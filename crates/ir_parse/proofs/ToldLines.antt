@@ -6,17 +6,17 @@ use Rattle.ir_lex.specs.Tok.{Tok}
 use Rattle.ir_tree.specs.declared.instr.CastOp.TheVariants as casts
 use Rattle.ir_parse_parts.specs.Alphabet.{among}
 use Rattle.ir_parse_parts.specs.Readers.{Reader}
-use Rattle.ir_parse_instructions.specs.AddressingAt.{reserving_at, addressing_at}
+use Rattle.ir_parse_operands.specs.AddressingAt.{reserving_at, addressing_at}
 use Rattle.ir_parse.proofs.ToldAddressing.{reserving_told, addressing_told}
 use Rattle.ir_parse_parts.specs.Classes.{tokens}
 use Rattle.ir_parse_parts.specs.declared.raw.Instr.{Instr}
-use Rattle.ir_parse_instructions.specs.Instructions.{no_flags}
-use Rattle.ir_parse_instructions.specs.InstructionsAt.{loading_at, storing_at}
+use Rattle.ir_parse_bodies.specs.Instructions.{no_flags}
+use Rattle.ir_parse_bodies.specs.InstructionsAt.{loading_at, storing_at}
 use Rattle.ir_parse.proofs.ToldInstructions.{on_two_told, wrapping_told, dividing_told, joining_told, comparing_told, casting_told, extending_told, narrowing_told, selecting_told, freezing_told, loading_told, storing_told}
 use Rattle.ir_parse.proofs.ToldMetadata.{attachments_told}
 use Rattle.ir_parse_parts.specs.Operands.{LOCAL}
 use Rattle.ir_parse.proofs.ToldOperands.{local_told}
-use Rattle.ir_parse_instructions.specs.PhisAt.{phi_at}
+use Rattle.ir_parse_bodies.specs.PhisAt.{phi_at}
 use Rattle.ir_parse.proofs.ToldPhis.{phi_told}
 use Rattle.ir_parse.proofs.ToldCalls.{calling_told, tail_calling_told}
 use Rattle.ir_parse_bodies.specs.Lines.{GIVING, OPCODES, opcode_of, begun_of}

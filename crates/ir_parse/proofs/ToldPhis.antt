@@ -10,9 +10,9 @@ use Rattle.ir_parse_parts.specs.Metadata.{META}
 use Rattle.ir_parse.proofs.ToldMetadata.{attached_told}
 use Rattle.ir_parse.proofs.ToldOperands.{reg_told, local_told}
 use Rattle.ir_parse.proofs.ToldValues.{operand_told}
-use Rattle.ir_parse_instructions.specs.Phis.{anywhere}
-use Rattle.ir_parse_instructions.specs.PhisAt.{incoming_at, attaching_at, entering_at, behind_comma_at, further_at, begins, entries_at, phi_of_at, phi_at}
-use Rattle.ir_parse_instructions.proofs.PhiRules.{further_rule}
+use Rattle.ir_parse_operands.specs.Adding.{anywhere}
+use Rattle.ir_parse_bodies.specs.PhisAt.{incoming_at, attaching_at, entering_at, behind_comma_at, further_at, begins, entries_at, phi_of_at, phi_at}
+use Rattle.ir_parse_bodies.proofs.PhiRules.{further_rule}
 
 pub incoming_told : (r : Reg) → Tells (incoming_at r)
 unfolding incoming_at

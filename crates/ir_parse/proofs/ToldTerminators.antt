@@ -9,14 +9,14 @@ use Rattle.ir_tree.specs.declared.operand.Reg.TheVariants.{Int, Ptr}
 use Rattle.ir_parse_parts.specs.Alphabet.{among}
 use Rattle.ir_parse_parts.specs.Classes.{tokens, refusal}
 use Rattle.ir_parse_parts.specs.declared.raw.Operand.{Operand}
-use Rattle.ir_parse_instructions.specs.declared.terminators.End.{End}
-use Rattle.ir_parse_instructions.specs.declared.terminators.End.TheVariants as end
+use Rattle.ir_parse_operands.specs.declared.terminators.End.{End}
+use Rattle.ir_parse_operands.specs.declared.terminators.End.TheVariants as end
 use Rattle.ir_parse.proofs.ToldMetadata.{attachments_told}
 use Rattle.ir_parse_parts.specs.Operands.{REG, type_refusal}
 use Rattle.ir_parse.proofs.ToldOperands.{reg_told, integer_told, bit_told, result_told, local_told}
 use Rattle.ir_parse.proofs.ToldValues.{operand_told}
-use Rattle.ir_parse_instructions.specs.Terminators.{case_classes, matched_of, ENDS, ending_of}
-use Rattle.ir_parse_instructions.specs.TerminatorsAt.{LABEL, returned_at, returning_at, target_at, branches_at, branching_at, constant_at, case_of_at, case_at, cases_at, end_of_cases_at, switched_at, switches_at, switching_at, behind_end_at, terminator_at}
+use Rattle.ir_parse_operands.specs.Terminators.{case_classes, matched_of, ENDS, ending_of}
+use Rattle.ir_parse_operands.specs.TerminatorsAt.{LABEL, returned_at, returning_at, target_at, branches_at, branching_at, constant_at, case_of_at, case_at, cases_at, end_of_cases_at, switched_at, switches_at, switching_at, behind_end_at, terminator_at}
 use Rattle.ir_parse_parts.specs.Rules.{disjoint}
 use Rattle.std.proofs.Common.{true, ◌≡◌, refl}
 use Rattle.ir_parse.specs.Refusals.{REFUSED_EVERYWHERE}

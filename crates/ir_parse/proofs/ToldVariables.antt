@@ -9,7 +9,7 @@ use Rattle.ir_parse_parts.specs.Alphabet.{among}
 use Rattle.ir_parse_parts.specs.Classes.{tokens}
 use Rattle.ir_parse_parts.specs.Decimals.{is_alignment}
 use Rattle.ir_parse_heads.specs.FunctionHeads.{LINKAGES, linkage_word, QUALIFIERS, nothing_of, name_refusal}
-use Rattle.ir_parse_instructions.specs.InstructionsAt.{ALIGN}
+use Rattle.ir_parse_operands.specs.AlignmentsAt.{ALIGN}
 use Rattle.ir_parse_parts.specs.MetadataAt.{COMMA, PAREN}
 use Rattle.ir_parse.proofs.ToldMetadata.{attached_told}
 use Rattle.ir_parse_parts.specs.Operands.{global_named}

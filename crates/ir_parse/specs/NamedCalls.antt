@@ -5,7 +5,7 @@ use Rattle.ir_lex.specs.Tok.{Tok}
 use Rattle.ir_lex.specs.declared.token_kind.TokenKind.TheVariants as kinds
 use Rattle.ir_parse_parts.specs.Chained.{Chain}
 use Rattle.ir_parse_parts.specs.Forms.{Form, ◌>>=◌, gives, optional, Star}
-use Rattle.ir_parse_instructions.specs.Addressing.{any_slots}
+use Rattle.ir_parse_operands.specs.Addressing.{any_slots}
 use Rattle.ir_parse_heads.specs.Attributes.{definition_attributes}
 use Rattle.ir_parse_parts.specs.Classes.{the}
 use Rattle.ir_parse_heads.specs.FunctionHeads.{any_head}

@@ -15,16 +15,16 @@ use Rattle.ir_parse_parts.specs.Rules.{Rule, Opens, IsWithin}
 use Rattle.ir_parse_parts.proofs.Composed.{widened, with_wide}
 use Rattle.ir_parse_parts.proofs.Rules as rules
 use Rattle.ir_parse_parts.proofs.Rules.{apart_from, contains-append}
-use Rattle.ir_parse_instructions.specs.Addressing.{any_slots}
+use Rattle.ir_parse_operands.specs.Addressing.{any_slots}
 use Rattle.ir_parse_parts.specs.Classes.{tokens, NUMERALS, refusal, the, itself}
 use Rattle.ir_parse_heads.specs.declared.function_heads.Role.TheVariants as roles
 use Rattle.ir_parse_parts.specs.Operands.{named}
 use Rattle.ir_parse_operands.specs.ShapeForms.{any_shape}
-use Rattle.ir_parse_instructions.specs.Terminators.{ENDS}
+use Rattle.ir_parse_operands.specs.Terminators.{ENDS}
 use Rattle.ir_parse_heads.proofs.AttributeRules.{definition_attributes_rule}
 use Rattle.ir_parse_heads.proofs.FunctionHeadRules.{head_rule}
 use Rattle.ir_parse_parts.proofs.Singles.{sample, not_number, not_limit, the_opens, one_opens, open_brace_rule, close_brace_rule}
-use Rattle.ir_parse_instructions.proofs.TerminatorRules.{terminator_rule, terminator_opens}
+use Rattle.ir_parse_operands.proofs.TerminatorRules.{terminator_rule, terminator_opens}
 use Rattle.ir_parse_bodies.specs.Blocks.{LABEL, label, any_label, any_local, keep, lines, block_of, block_behind, block, any_lines, any_block_behind, any_block, at_will, blocks, any_blocks, FURTHER_BLOCKS, INSTRUCTIONS, definition, any_definition}
 use Rattle.ir_parse_bodies.specs.BlocksAt.{BLOCK, DEFINE, label_at, lines_at, block_behind_at, block_at, further_blocks_at, blocks_behind_at, blocks_at, definition_at}
 use Rattle.ir_parse_bodies.specs.Lines.{line}

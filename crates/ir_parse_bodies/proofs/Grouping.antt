@@ -1,7 +1,8 @@
--- Blocks and definitions, read as calls read them.
+-- Phis, blocks and definitions, read as calls read them.
 use Rattle.std.proofs.Common.{◌≡◌, ℕ, List, [], ◌∷◌, ◌++◌, Result, Ok, Err, refl, sym, ap, ◌∙◌, append_assoc}
 use Rattle.ir_lex.specs.declared.token_kind.TokenKind.TheVariants as kinds
 use Rattle.ir_lex.specs.Tok.{Tok}
+use Rattle.ir_tree.specs.declared.operand.Reg.{Reg}
 use Rattle.ir_parse_parts.specs.Alphabet.{among}
 use Rattle.ir_parse_parts.specs.declared.fault.Fault.{Fault}
 use Rattle.ir_parse_parts.specs.Readers.{Reader, done, follow, ◌>>=◌}
@@ -11,14 +12,21 @@ use Rattle.ir_parse_heads.specs.declared.attributes.Kept.{Kept}
 use Rattle.ir_parse_heads.specs.declared.function_heads.Role.TheVariants as roles
 use Rattle.ir_parse_parts.specs.declared.raw.Block.{Block}
 use Rattle.ir_parse_parts.specs.declared.raw.FunctionHeader.{FunctionHeader}
+use Rattle.ir_parse_parts.specs.declared.raw.Instr.TheVariants as instrs
 use Rattle.ir_parse_parts.specs.declared.raw.Item.{Item}
 use Rattle.ir_parse_parts.specs.declared.raw.Item.TheVariants.{Definition}
 use Rattle.ir_parse_heads.specs.FunctionHeadsAt.{head_at}
 use Rattle.ir_parse_operands.specs.Adding.{pushed_at}
+use Rattle.ir_parse_operands.proofs.Grouping.{grouped}
 use Rattle.ir_parse_bodies.specs.Adding.{added_at, joined_at}
 use Rattle.ir_parse_bodies.specs.Blocks.{LABEL, FURTHER_BLOCKS, INSTRUCTIONS, with_kept}
 use Rattle.ir_parse_bodies.specs.BlocksAt.{block_at, block_behind_at, blocks_at, blocks_behind_at, braced_at, defined_at, definition_at, further_blocks_at, heading_at, label_at, maybe_label_at}
+use Rattle.ir_parse_bodies.specs.PhisAt.{incoming_at, entries_at, all_entries_at, phi_of_at}
 use Rattle.ir_parse_bodies.proofs.Additions.{optional_then}
+
+pub phi_of_is : (r : Reg) (ts : List Tok) → phi_of_at r ts ≡ follow (all_entries_at r ts) (λ is. done (instrs.Phi r is))
+unfolding phi_of_at
+phi_of_is r ts = grouped (entries_at r) (λ is. done (instrs.Phi r is)) (incoming_at r ts)
 
 pub block_is : (room : ℕ) (ts : List Tok) → block_at room ts ≡ (maybe_label_at >>= block_behind_at room) ts
 unfolding block_at

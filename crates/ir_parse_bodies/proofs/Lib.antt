@@ -1,3 +1,7 @@
+pub mod InstructionRules
+pub mod MemoryRules
+pub mod PhiRules
+pub mod BehindCommas
 mod Additions
 pub mod BlockRules
 pub mod CallRules

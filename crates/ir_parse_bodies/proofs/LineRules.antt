@@ -11,19 +11,19 @@ use Rattle.ir_parse_parts.specs.Forms as form
 use Rattle.ir_parse_parts.specs.Rules.{Rule, Opens, in_range, is_among, is_valued}
 use Rattle.ir_parse_parts.proofs.Composed.{with_wide}
 use Rattle.ir_parse_parts.proofs.Rules as rules
-use Rattle.ir_parse_instructions.specs.Addressing.{slots_fit, any_slots}
+use Rattle.ir_parse_operands.specs.Addressing.{slots_fit, any_slots}
 use Rattle.ir_parse_parts.specs.Classes.{tokens, refusal, one_of, itself}
 use Rattle.ir_parse_parts.specs.Decimals.{decimal}
-use Rattle.ir_parse_instructions.specs.Instructions.{PREDICATES}
+use Rattle.ir_parse_bodies.specs.Instructions.{PREDICATES}
 use Rattle.ir_parse_parts.specs.Operands.{LOCAL, REG, local, named, is_numeral}
 use Rattle.ir_parse_parts.specs.OperandsAt.{local_at}
 use Rattle.ir_parse_operands.specs.ShapeForms.{any_shape, memory_shape}
-use Rattle.ir_parse_instructions.proofs.AddressingRules.{STEPPED, reserving_rule, addressing_rule}
-use Rattle.ir_parse_instructions.proofs.InstructionRules.{on_two_rule, wrapping_rule, dividing_rule, joining_rule, comparing_rule, casting_rule, extending_rule, narrowing_rule, selecting_rule, freezing_rule}
-use Rattle.ir_parse_instructions.proofs.MemoryRules.{loading_rule, storing_rule}
+use Rattle.ir_parse_operands.proofs.AddressingRules.{STEPPED, reserving_rule, addressing_rule}
+use Rattle.ir_parse_bodies.proofs.InstructionRules.{on_two_rule, wrapping_rule, dividing_rule, joining_rule, comparing_rule, casting_rule, extending_rule, narrowing_rule, selecting_rule, freezing_rule}
+use Rattle.ir_parse_bodies.proofs.MemoryRules.{loading_rule, storing_rule}
 use Rattle.ir_parse_parts.proofs.Nodes.{attachments_rule}
 use Rattle.ir_parse_parts.proofs.OperandRules.{local_rule}
-use Rattle.ir_parse_instructions.proofs.PhiRules.{phi_rule}
+use Rattle.ir_parse_bodies.proofs.PhiRules.{phi_rule}
 use Rattle.ir_parse_parts.proofs.Singles.{word, one_rule, one_opens, equals_rule}
 use Rattle.ir_parse_bodies.specs.Blocks.{any_local}
 use Rattle.ir_parse_bodies.specs.Lines.{GIVING, OPCODES, opcode_of, begun_of, operation, attended, kept, behind, lined, line_behind, named_line, plain_line, line}

@@ -8,7 +8,7 @@ use Rattle.ir_lex.specs.Tok.{Tok}
 use Rattle.ir_parse_parts.specs.Chained.{Chain}
 use Rattle.ir_parse_parts.specs.Forms.{Form, ◌>>=◌, either, gives, token, Many, Star}
 use Rattle.ir_parse_parts.specs.Rules.{is_valued}
-use Rattle.ir_parse_instructions.specs.Addressing.{slots_fit, any_slots}
+use Rattle.ir_parse_operands.specs.Addressing.{slots_fit, any_slots}
 use Rattle.ir_parse_heads.specs.Attributes.{definition_attributes}
 use Rattle.ir_parse_parts.specs.Classes.{tokens, refusal, the, one_of, itself}
 use Rattle.ir_parse_heads.specs.declared.attributes.Kept.{Kept}
@@ -18,11 +18,11 @@ use Rattle.ir_parse_parts.specs.declared.raw.FunctionHeader.{FunctionHeader}
 use Rattle.ir_parse_parts.specs.declared.raw.Item.{Item}
 use Rattle.ir_parse_parts.specs.declared.raw.Item.TheVariants.{Definition}
 use Rattle.ir_parse_parts.specs.declared.raw.WrittenLine.{WrittenLine}
-use Rattle.ir_parse_instructions.specs.declared.terminators.Ended.{Ended}
+use Rattle.ir_parse_operands.specs.declared.terminators.Ended.{Ended}
 use Rattle.ir_parse_heads.specs.FunctionHeads.{head, any_head}
 use Rattle.ir_parse_parts.specs.Operands.{LOCAL, local, named}
 use Rattle.ir_parse_operands.specs.ShapeForms.{any_shape, memory_shape}
-use Rattle.ir_parse_instructions.specs.Terminators.{terminator}
+use Rattle.ir_parse_operands.specs.Terminators.{terminator}
 use Rattle.ir_parse_bodies.specs.Lines.{line}
 use Rattle.ir_parse_bodies.specs.Successive.{Successive}
 

@@ -17,8 +17,8 @@ use Rattle.ir_parse_parts.specs.declared.raw.Item.TheVariants.{Definition}
 use Rattle.ir_parse_parts.specs.declared.raw.WrittenLine.{WrittenLine}
 use Rattle.ir_parse_heads.specs.FunctionHeadsAt.{head_at}
 use Rattle.ir_parse_parts.specs.Operands.{named}
-use Rattle.ir_parse_instructions.specs.Terminators.{ENDS}
-use Rattle.ir_parse_instructions.specs.TerminatorsAt.{terminator_at}
+use Rattle.ir_parse_operands.specs.Terminators.{ENDS}
+use Rattle.ir_parse_operands.specs.TerminatorsAt.{terminator_at}
 use Rattle.ir_parse_bodies.specs.Adding.{joined_at}
 use Rattle.ir_parse_bodies.specs.Blocks.{LABEL, keep, block_of, FURTHER_BLOCKS, INSTRUCTIONS, with_kept}
 use Rattle.ir_parse_bodies.specs.LinesAt.{LINE, line_at}

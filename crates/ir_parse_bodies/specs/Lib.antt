@@ -1,3 +1,7 @@
+pub mod Instructions
+pub mod InstructionsAt
+pub mod Phis
+pub mod PhisAt
 pub mod Adding
 pub mod Blocks
 pub mod BlocksAt

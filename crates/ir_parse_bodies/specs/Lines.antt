@@ -8,15 +8,15 @@ use Rattle.ir_lex.specs.Tok.{Tok}
 use Rattle.ir_tree.specs.declared.instr.BinaryOp.TheVariants as ops
 use Rattle.ir_tree.specs.declared.instr.CastOp.TheVariants as casts
 use Rattle.ir_parse_parts.specs.Forms.{Form, ◌>>=◌, either, gives}
-use Rattle.ir_parse_instructions.specs.Addressing.{reserving, addressing}
+use Rattle.ir_parse_operands.specs.Addressing.{reserving, addressing}
 use Rattle.ir_parse_parts.specs.Shapes.{Written}
 use Rattle.ir_parse_parts.specs.Classes.{the, one_of}
 use Rattle.ir_parse_parts.specs.declared.raw.Instr.{Instr}
 use Rattle.ir_parse_parts.specs.declared.raw.WrittenLine.{WrittenLine}
 use Rattle.ir_parse_parts.specs.declared.shape.Typed.{Typed}
-use Rattle.ir_parse_instructions.specs.Instructions.{no_flags, on_two, wrapping, dividing, joining, comparing, casting, extending, narrowing, selecting, freezing, loading, storing}
+use Rattle.ir_parse_bodies.specs.Instructions.{no_flags, on_two, wrapping, dividing, joining, comparing, casting, extending, narrowing, selecting, freezing, loading, storing}
 use Rattle.ir_parse_parts.specs.Metadata.{attachments}
-use Rattle.ir_parse_instructions.specs.Phis.{phi}
+use Rattle.ir_parse_bodies.specs.Phis.{phi}
 use Rattle.ir_parse_bodies.specs.Calls.{calling, tail_calling}
 use Rattle.ir_parse_bodies.specs.declared.opcodes.Begun.{Begun}
 use Rattle.ir_parse_bodies.specs.declared.opcodes.Opcode.{Opcode}

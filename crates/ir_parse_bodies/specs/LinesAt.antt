@@ -6,16 +6,16 @@ use Rattle.ir_lex.specs.Tok.{Tok}
 use Rattle.ir_tree.specs.declared.instr.CastOp.TheVariants as casts
 use Rattle.ir_parse_parts.specs.Alphabet.{among}
 use Rattle.ir_parse_parts.specs.Readers.{Reader, ◌>>=◌, done, pick}
-use Rattle.ir_parse_instructions.specs.AddressingAt.{reserving_at, addressing_at}
+use Rattle.ir_parse_operands.specs.AddressingAt.{reserving_at, addressing_at}
 use Rattle.ir_parse_parts.specs.Classes.{tokens, the_at, one_of_at}
 use Rattle.ir_parse_parts.specs.declared.raw.Instr.{Instr}
 use Rattle.ir_parse_parts.specs.declared.raw.WrittenLine.{WrittenLine}
-use Rattle.ir_parse_instructions.specs.Instructions.{no_flags}
-use Rattle.ir_parse_instructions.specs.InstructionsAt.{on_two_at, wrapping_at, dividing_at, joining_at, comparing_at, casting_at, extending_at, narrowing_at, selecting_at, freezing_at, loading_at, storing_at}
+use Rattle.ir_parse_bodies.specs.Instructions.{no_flags}
+use Rattle.ir_parse_bodies.specs.InstructionsAt.{on_two_at, wrapping_at, dividing_at, joining_at, comparing_at, casting_at, extending_at, narrowing_at, selecting_at, freezing_at, loading_at, storing_at}
 use Rattle.ir_parse_parts.specs.MetadataAt.{attachments_at}
 use Rattle.ir_parse_parts.specs.Operands.{LOCAL}
 use Rattle.ir_parse_parts.specs.OperandsAt.{local_at}
-use Rattle.ir_parse_instructions.specs.PhisAt.{phi_at}
+use Rattle.ir_parse_bodies.specs.PhisAt.{phi_at}
 use Rattle.ir_parse_bodies.specs.CallsAt.{calling_at, tail_calling_at}
 use Rattle.ir_parse_bodies.specs.Lines.{GIVING, OPCODES, opcode_of, begun_of, lined}
 use Rattle.ir_parse_bodies.specs.declared.opcodes.Opcode.{Opcode}

@@ -8,7 +8,7 @@ ghost use Rattle.ir_parse_parts.specs.Readers.{Returns, next_is};
 ghost use Rattle.ir_parse_parts.specs.Rules.{is_valued};
 ghost use Rattle.ir_parse_parts.specs.Classes.{tokens, refusal};
 ghost use Rattle.ir_parse_parts.specs.Operands.{named};
-ghost use Rattle.ir_parse_instructions.specs.Terminators.{ENDS};
+ghost use Rattle.ir_parse_operands.specs.Terminators.{ENDS};
 ghost use Rattle.ir_parse_bodies.specs.Blocks.{LABEL, block_of};
 ghost use Rattle.ir_parse_bodies.specs.Adding.{added_at, joined_at};
 ghost use Rattle.ir_parse_bodies.specs.BlocksAt.{BLOCK, label_at, maybe_label_at, lines_from_at, block_at, blocks_from_at, blocks_at};
@@ -16,8 +16,7 @@ ghost use Rattle.ir_parse_bodies.specs.LinesAt.{LINE};
 
 use crate::lines::line_into;
 use ir_lex::{Token, TokenKind};
-use ir_parse_instructions::{Ended, terminator_into};
-use ir_parse_operands::{Listing, push};
+use ir_parse_operands::{Ended, Listing, push, terminator_into};
 use ir_parse_parts::{
     Block, Fault, Name, ReaderError, Terminator, TokenFault, Tokens, named, refusal,
 };

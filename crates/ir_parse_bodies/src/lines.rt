@@ -8,14 +8,14 @@ ghost use Rattle.ir_parse_bodies.specs.LinesAt.{operation_at, attended_at, behin
 ghost use Rattle.ir_parse_bodies.specs.Listed.{listed_at};
 
 use crate::calls::{calling_into, tail_calling_into};
-use crate::opcodes::{Opcode, Operation, begun_at, giving_at};
-use ir_lex::TokenKind;
-use ir_parse_instructions::{
-    addressing_into, casting_into, comparing_into, dividing_into, extending_into, freezing_into,
-    joining_into, loading_into, narrowing_into, on_two_into, phi_into, reserving_into,
-    selecting_into, storing_into, wrapping_into,
+use crate::instructions::{
+    casting_into, comparing_into, dividing_into, extending_into, freezing_into, joining_into,
+    loading_into, narrowing_into, on_two_into, selecting_into, storing_into, wrapping_into,
 };
-use ir_parse_operands::Listing;
+use crate::opcodes::{Opcode, Operation, begun_at, giving_at};
+use crate::phis::phi_into;
+use ir_lex::TokenKind;
+use ir_parse_operands::{Listing, addressing_into, reserving_into};
 use ir_parse_parts::{Name, ReaderError, Tokens, attachments_at, expect, local_at};
 use ir_tree::{CastOp, Flags};
 use std::alloc::Global;

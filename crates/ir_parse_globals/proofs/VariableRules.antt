@@ -20,7 +20,7 @@ use Rattle.ir_parse_parts.proofs.Composed.{with_wide}
 use Rattle.ir_parse_parts.proofs.Rules as rules
 use Rattle.ir_parse_parts.specs.Classes.{tokens, IsReal, the, the_at, one_of, one_of_at, itself}
 use Rattle.ir_parse_heads.specs.FunctionHeads.{LINKAGES, linkage_word, QUALIFIERS, nothing_of, name_refusal}
-use Rattle.ir_parse_instructions.specs.InstructionsAt.{ALIGN}
+use Rattle.ir_parse_operands.specs.AlignmentsAt.{ALIGN}
 use Rattle.ir_parse_parts.specs.MetadataAt.{COMMA, PAREN}
 use Rattle.ir_parse_parts.specs.Operands.{global_named}
 use Rattle.ir_parse_operands.specs.ShapeForms.{any_shape, memory_shape}

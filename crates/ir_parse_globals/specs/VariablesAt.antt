@@ -14,7 +14,7 @@ use Rattle.ir_parse_parts.specs.Decimals.{is_alignment}
 use Rattle.ir_parse_parts.specs.declared.raw.Init.{Init}
 use Rattle.ir_parse_parts.specs.declared.raw.Item.{Item}
 use Rattle.ir_parse_heads.specs.FunctionHeads.{LINKAGES, linkage_word, QUALIFIERS, nothing_of, name_refusal}
-use Rattle.ir_parse_instructions.specs.InstructionsAt.{ALIGN}
+use Rattle.ir_parse_operands.specs.AlignmentsAt.{ALIGN}
 use Rattle.ir_parse_parts.specs.MetadataAt.{COMMA, PAREN, attached_at}
 use Rattle.ir_parse_parts.specs.Operands.{global_named}
 use Rattle.ir_parse_operands.specs.ShapeFormsAt.{memory_shape_at}

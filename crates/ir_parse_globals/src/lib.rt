@@ -1,11 +1,10 @@
 //! Reads global variables with their initialisers, type definitions, target lines and attribute groups, with their
 //! names as they are written.
 //!
-//! Below stand lines of the target and attribute groups (`ir_parse_heads`), shapes and operands (`ir_parse_operands`), a kind of
-//! tokens of `ir_parse_instructions` in definitions alone, names, types and the laws of forms (`ir_parse_parts`), and tokens
-//! (`ir_lex`). An initialiser nests as deep as its text does: it is kept as a flat list of parts, with the aggregates
-//! that are open on a stack, so nothing recurses but in shapes. A number for a pointer, or for what is no scalar, is
-//! read and kept, and left to the verifier.
+//! Below stand lines of the target and attribute groups (`ir_parse_heads`), shapes and operands (`ir_parse_operands`),
+//! names, types and the laws of forms (`ir_parse_parts`), and tokens (`ir_lex`). An initialiser nests as deep as its
+//! text does: it is kept as a flat list of parts, with the aggregates that are open on a stack, so nothing recurses but
+//! in shapes. A number for a pointer, or for what is no scalar, is read and kept, and left to the verifier.
 //!
 //! **Promise.** Each call gives what its form says of the tokens, or the first token at which no reading goes on, as
 //! [`variable_line_into`] (`specs/Variables`), [`initialiser_at`] (`specs/Initialisers`) and [`type_line_into`]

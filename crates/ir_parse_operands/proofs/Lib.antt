@@ -8,3 +8,8 @@ pub mod Levels
 pub mod ShapeRules
 pub mod Subforms
 pub mod ValueRules
+mod Counts
+pub mod AlignmentRules
+pub mod BehindCommas
+pub mod AddressingRules
+pub mod TerminatorRules

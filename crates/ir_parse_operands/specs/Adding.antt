@@ -1,5 +1,5 @@
 -- What is read, added to what was read before.
-use Rattle.std.specs.Prelude.{List, [], ◌∷◌, ◌++◌}
+use Rattle.std.specs.Prelude.{Bool, true, List, [], ◌∷◌, ◌++◌}
 use Rattle.ir_lex.specs.Tok.{Tok}
 use Rattle.ir_parse_parts.specs.Readers.{Reader, ◌>>=◌, done}
 
@@ -14,3 +14,7 @@ abbrev pub gathered_at : {A S B : Type 0} → (B → A → B) → B → Reader T
 gathered_at step front f = do
   x ← f
   done (step front x.0, x.1)
+
+-- a list may end behind each of its pieces
+abbrev pub anywhere : Bool → Bool
+anywhere s = true

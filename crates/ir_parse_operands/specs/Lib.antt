@@ -5,3 +5,9 @@ pub mod ShapeForms
 pub mod ShapeFormsAt
 pub mod Values
 pub mod ValuesAt
+pub mod Alignments
+pub mod AlignmentsAt
+pub mod Addressing
+pub mod AddressingAt
+pub mod Terminators
+pub mod TerminatorsAt

@@ -5,6 +5,7 @@ use Rattle.ir_lex.specs.declared.token_kind.TokenKind.TheVariants as kinds
 use Rattle.ir_lex.specs.TokenKinds.{number}
 use Rattle.ir_lex.specs.Tok.{Tok}
 use Rattle.ir_tree.specs.declared.operand.Reg.{Reg}
+use Rattle.ir_tree.specs.declared.operand.Reg.TheVariants.{Ptr}
 use Rattle.ir_parse_parts.specs.Alphabet.{among}
 use Rattle.ir_parse_parts.specs.Readers.{Reader, ◌>>=◌, done, pick, token_at, star_at}
 use Rattle.ir_parse_parts.specs.Rules.{is_class, is_valued}
@@ -109,3 +110,10 @@ argument_at = do
   r ← reg_at
   v ← operand_at r
   done (record { reg = r; operand = v })
+
+-- , ptr operand
+unfoldable pub pointed_at : Reader Tok Operand
+pointed_at = do
+  _ ← the_at kinds.Comma
+  _ ← pointer_at
+  operand_at Ptr

@@ -12,14 +12,15 @@ ghost use Rattle.ir_parse_parts.specs.Literals.{IsWidth};
 ghost use Rattle.ir_parse_parts.specs.Operands.{IsReg, global_named};
 ghost use Rattle.ir_parse_operands.specs.Adding.{pushed_at};
 ghost use Rattle.ir_parse_operands.specs.Values.{GLOBAL, NUMBER, index_of, is_inbounds, or_inbounds};
-ghost use Rattle.ir_parse_operands.specs.ValuesAt.{address_at, all_openings_at, closing_at, closing_one_at, global_at, index_at, index_number_at, indices_at, opening_at, operand_at, pointer_at, stepping_at};
+ghost use Rattle.ir_parse_operands.specs.ValuesAt.{address_at, all_openings_at, argument_at, closing_at, closing_one_at, global_at, index_at, index_number_at, indices_at, opening_at, operand_at, pointed_at, pointer_at, stepping_at};
 
 use crate::adding::push;
 use crate::shapes::memory_shape_at;
 use ir_lex::{Token, TokenKind};
 use ir_parse_parts::{
-    Address, Fault, Index, Level, Name, Operand, ReaderError, Steps, TokenFault, Tokens, Typed,
-    done, expect, global_named, integer_at, literal, refusal, simple_at, type_refusal,
+    Address, Argument, Fault, Index, Level, Name, Operand, ReaderError, Steps, TokenFault, Tokens,
+    Typed, done, expect, global_named, integer_at, literal, refusal, reg_at, simple_at,
+    type_refusal,
 };
 use ir_tree::{Reg, Rows};
 use std::alloc::{AllocError, Global};
@@ -266,4 +267,24 @@ pub fn operand_at(alloc: Global, reg: Reg, tokens: &mut Tokens) -> Result<Operan
     } else {
         simple_at(alloc, reg, tokens)
     }
+}
+
+/// Reads `reg operand`.
+#[tactic(auto, unfolding(crate::specs::ValuesAt::argument_at))]
+pub fn argument_at(alloc: Global, tokens: &mut Tokens) -> Result<Argument, ReaderError>
+    ensures { Returns (λ x. (x, tokens.new)) result (argument_at tokens.old) }
+{
+    let reg = reg_at(tokens)?;
+    let operand = operand_at(alloc, reg, tokens)?;
+    done(Argument { reg, operand })
+}
+
+/// Reads `, ptr operand`.
+#[tactic(auto, unfolding(crate::specs::ValuesAt::pointed_at))]
+pub fn pointed_at(alloc: Global, tokens: &mut Tokens) -> Result<Operand, ReaderError>
+    ensures { Returns (λ x. (x, tokens.new)) result (pointed_at tokens.old) }
+{
+    expect(TokenKind::Comma, tokens)?;
+    pointer_at(tokens)?;
+    operand_at(alloc, Reg::Ptr, tokens)
 }

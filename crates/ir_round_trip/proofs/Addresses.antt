@@ -2,7 +2,7 @@
 use Rattle.std.proofs.Common.{Bool, true, false, [], refl}
 use Rattle.std.specs.List.{AllByRecursion as Each}
 use Rattle.std.specs.Prelude.{IfSome}
-use Rattle.ir_parse_instructions.specs.Addressing.{addressing, attaching, behind_comma, further, indexing, indices, keep}
+use Rattle.ir_parse_operands.specs.Addressing.{addressing, attaching, behind_comma, further, indexing, indices, keep}
 use Rattle.ir_parse_operands.specs.ShapeForms.{memory_shape}
 use Rattle.ir_tree.specs.declared.operand.Reg.TheVariants.{Ptr}
 use Rattle.ir_round_trip.specs.Spelled.{ArgumentSpelled, InstrSpelled}

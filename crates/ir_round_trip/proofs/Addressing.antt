@@ -11,10 +11,10 @@ use Rattle.ir_print.specs.Instructions.{pointer_to}
 use Rattle.ir_print.specs.Operands.{further_typed}
 use Rattle.ir_print.specs.Tokens.{space, word, comma, optional}
 use Rattle.ir_print.specs.Types.{shape}
-use Rattle.ir_parse_instructions.specs.Addressing.{one_slot, slots_behind, reserving, indexing, further, keep, indices, addressing, slots_fit}
+use Rattle.ir_parse_operands.specs.Addressing.{one_slot, slots_behind, reserving, indexing, further, keep, indices, addressing, slots_fit}
 use Rattle.ir_parse_parts.specs.Ahead.{STEPPING}
 use Rattle.ir_parse_parts.specs.Classes.{refusal, one_of}
-use Rattle.ir_parse_instructions.specs.Phis.{anywhere}
+use Rattle.ir_parse_operands.specs.Adding.{anywhere}
 use Rattle.ir_parse_operands.specs.ShapeForms.{memory_shape}
 use Rattle.ir_parse_operands.specs.Values.{is_inbounds, or_inbounds, stepping}
 use Rattle.ir_tree.specs.Formed.{IsAlignment}

@@ -10,7 +10,7 @@ use Rattle.ir_lex.specs.Tok.{Tok}
 use Rattle.ir_print.specs.Blocks as printed
 use Rattle.ir_print.specs.Blocks.{phis, phi_line, content, labelled, further_blocks}
 use Rattle.ir_print.specs.Instructions.{lines}
-use Rattle.ir_parse_instructions.specs.Addressing.{slots_fit}
+use Rattle.ir_parse_operands.specs.Addressing.{slots_fit}
 use Rattle.ir_parse_parts.specs.Operands.{local}
 use Rattle.ir_parse_operands.specs.ShapeForms.{memory_shape}
 use Rattle.ir_parse_parts.specs.declared.raw.Block as raw_block

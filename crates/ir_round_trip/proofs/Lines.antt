@@ -14,9 +14,9 @@ use Rattle.ir_print.specs.Instructions.{opcode, conversion, instruction, line_of
 use Rattle.ir_print.specs.Operands.{typed}
 use Rattle.ir_print.specs.Tokens.{space, indent, word}
 use Rattle.ir_print.specs.Types.{register}
-use Rattle.ir_parse_instructions.specs.Addressing.{slots_fit}
+use Rattle.ir_parse_operands.specs.Addressing.{slots_fit}
 use Rattle.ir_parse_parts.specs.Classes.{refusal, one_of}
-use Rattle.ir_parse_instructions.specs.Instructions.{casting}
+use Rattle.ir_parse_bodies.specs.Instructions.{casting}
 use Rattle.ir_parse_parts.specs.Operands.{local}
 use Rattle.ir_parse_operands.specs.ShapeForms.{memory_shape}
 use Rattle.ir_parse_parts.specs.declared.raw.Instr as raw_instr

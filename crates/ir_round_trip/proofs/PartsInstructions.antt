@@ -16,8 +16,9 @@ use Rattle.ir_print.specs.Types.{register}
 use Rattle.ir_parse_parts.specs.Ahead.{WRAPS}
 use Rattle.ir_parse_parts.specs.Classes.{refusal, the, one_of}
 use Rattle.ir_parse_parts.specs.Decimals as read_decimal
-use Rattle.ir_parse_instructions.specs.Instructions as read
-use Rattle.ir_parse_instructions.specs.Instructions.{is_nuw, with_wrap, no_flags, on_two, wrapping, dividing, joining, PREDICATES, predicate_by, predicate_of, comparing, casting, extending, narrowing, selecting, freezing, align, aligned, loading, storing, wraps}
+use Rattle.ir_parse_bodies.specs.Instructions as read
+use Rattle.ir_parse_bodies.specs.Instructions.{is_nuw, with_wrap, no_flags, on_two, wrapping, dividing, joining, PREDICATES, predicate_by, predicate_of, comparing, casting, extending, narrowing, selecting, freezing, loading, storing, wraps}
+use Rattle.ir_parse_operands.specs.Alignments.{align, aligned}
 use Rattle.ir_parse_parts.specs.Metadata.{attachments}
 use Rattle.ir_parse_parts.specs.Operands.{maybe}
 use Rattle.ir_parse_operands.specs.ShapeForms.{memory_shape}

@@ -4,7 +4,8 @@ use Rattle.std.specs.List.{AllByRecursion as Each}
 use Rattle.ir_print.specs.Instructions as printed
 use Rattle.ir_print.specs.Tokens.{space}
 use Rattle.ir_print.specs.Types.{register}
-use Rattle.ir_parse_instructions.specs.Phis.{incoming, entering, anywhere, further, keep, entries, phi_of, phi}
+use Rattle.ir_parse_bodies.specs.Phis.{incoming, entering, further, keep, entries, phi_of, phi}
+use Rattle.ir_parse_operands.specs.Adding.{anywhere}
 use Rattle.ir_parse_operands.specs.ShapeForms.{memory_shape}
 use Rattle.ir_tree.specs.Formed.{IsReg}
 use Rattle.ir_tree.specs.declared.instr.Incoming.{Incoming}

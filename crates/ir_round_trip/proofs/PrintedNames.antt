@@ -13,7 +13,7 @@ use Rattle.ir_parse_parts.specs.Classes.{refusal}
 use Rattle.ir_parse_parts.specs.Decimals as read_decimal
 use Rattle.ir_parse_parts.specs.Operands.{is_numeral, named, named_by, LOCAL}
 use Rattle.ir_parse_parts.specs.Operands as read
-use Rattle.ir_parse_instructions.specs.Terminators.{target}
+use Rattle.ir_parse_operands.specs.Terminators.{target}
 use Rattle.ir_parse_parts.specs.Alphabet.{contains}
 use Rattle.ir_round_trip.specs.PartsPrinted.{IsNumber}
 use Rattle.ir_round_trip.specs.Reads.{Parses}

@@ -14,10 +14,10 @@ use Rattle.ir_parse_parts.specs.Classes.{refusal, one_of}
 use Rattle.ir_parse_parts.specs.Literals.{literal}
 use Rattle.ir_parse_parts.specs.Operands.{type_refusal}
 use Rattle.ir_parse_operands.specs.ShapeForms.{memory_shape}
-use Rattle.ir_parse_instructions.specs.Terminators as read
-use Rattle.ir_parse_instructions.specs.Terminators.{ENDS, ending_of, end_by, behind_end, returned, returning, branching, case_classes, matched, matched_by, matched_of, case_of, case, end_of_cases, switching}
-use Rattle.ir_parse_instructions.specs.declared.terminators.End.{End}
-use Rattle.ir_parse_instructions.specs.declared.terminators.End.TheVariants as ends
+use Rattle.ir_parse_operands.specs.Terminators as read
+use Rattle.ir_parse_operands.specs.Terminators.{ENDS, ending_of, end_by, behind_end, returned, returning, branching, case_classes, matched, matched_by, matched_of, case_of, case, end_of_cases, switching}
+use Rattle.ir_parse_operands.specs.declared.terminators.End.{End}
+use Rattle.ir_parse_operands.specs.declared.terminators.End.TheVariants as ends
 use Rattle.ir_tree.specs.Formed.{IsWidth}
 use Rattle.ir_tree.specs.declared.block.Case.{Case}
 use Rattle.ir_tree.specs.declared.block.Terminator.{Terminator}

@@ -10,12 +10,11 @@ use Rattle.ir_parse_bodies.specs.declared.opcodes.Operation.{Operation}
 use Rattle.ir_parse_bodies.specs.declared.opcodes.Operation.TheVariants as operations
 use Rattle.ir_lex.specs.TokenKinds.{width_of}
 use Rattle.ir_lex.specs.Tok.{Tok}
-use Rattle.ir_parse_instructions.specs.Addressing.{slots_fit}
-use Rattle.ir_parse_instructions.specs.Addressing.{fitting, many_slots, one_slot, reserving, slots_behind}
-use Rattle.ir_parse_instructions.specs.Instructions as instr
+use Rattle.ir_parse_operands.specs.Addressing.{slots_fit, fitting, many_slots, one_slot, reserving, slots_behind}
+use Rattle.ir_parse_bodies.specs.Instructions as instr
 use Rattle.ir_parse_parts.specs.Operands.{width}
 use Rattle.ir_parse_operands.specs.ShapeForms.{memory_shape, count_of}
-use Rattle.ir_parse_instructions.specs.declared.addressing.Slots.{Slots}
+use Rattle.ir_parse_operands.specs.declared.addressing.Slots.{Slots}
 use Rattle.ir_parse_parts.specs.declared.raw.Instr.{Instr}
 use Rattle.ir_tree.specs.declared.instr.BinaryOp.{BinaryOp}
 use Rattle.ir_tree.specs.declared.instr.BinaryOp.TheVariants as ops

@@ -2,7 +2,7 @@
 use Rattle.std.proofs.Common.{Bool, true, false, List, [], ◌∷◌, ◌++◌, Option, Some, None, refl}
 use Rattle.std.specs.List.{AllByRecursion as Each, fold}
 use Rattle.std.specs.Prelude.{IfSome}
-use Rattle.ir_parse_instructions.specs.Phis.{attaching, behind_comma, entering, entries, further, incoming, keep, phi, phi_of}
+use Rattle.ir_parse_bodies.specs.Phis.{attaching, behind_comma, entering, entries, further, incoming, keep, phi, phi_of}
 use Rattle.ir_parse_operands.specs.ShapeForms.{memory_shape}
 use Rattle.ir_parse_parts.specs.declared.raw.Incoming.{Incoming}
 use Rattle.ir_tree.specs.declared.operand.Reg.{Reg}

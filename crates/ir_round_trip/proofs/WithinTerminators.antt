@@ -5,10 +5,10 @@ use Rattle.ir_lex.specs.declared.token_kind.TokenKind.{TokenKind}
 use Rattle.ir_lex.specs.declared.token_kind.TokenKind.TheVariants as kinds
 use Rattle.ir_parse_parts.specs.Literals.{literal}
 use Rattle.ir_parse_operands.specs.ShapeForms.{memory_shape}
-use Rattle.ir_parse_instructions.specs.Terminators.{behind_end, branching, case, case_of, constant, matched, matched_by, matched_number, returned, returning, switching, terminator}
-use Rattle.ir_parse_instructions.specs.declared.terminators.End.{End}
-use Rattle.ir_parse_instructions.specs.declared.terminators.End.TheVariants as end
-use Rattle.ir_parse_instructions.specs.declared.terminators.Matched.{Matched}
+use Rattle.ir_parse_operands.specs.Terminators.{behind_end, branching, case, case_of, constant, matched, matched_by, matched_number, returned, returning, switching, terminator}
+use Rattle.ir_parse_operands.specs.declared.terminators.End.{End}
+use Rattle.ir_parse_operands.specs.declared.terminators.End.TheVariants as end
+use Rattle.ir_parse_operands.specs.declared.terminators.Matched.{Matched}
 use Rattle.ir_tree.specs.declared.operand.Reg.{Reg}
 use Rattle.ir_tree.specs.declared.operand.Reg.TheVariants.{Int, Ptr}
 use Rattle.ir_round_trip.specs.PrintedTyped.{NumberTyped}

@@ -9,10 +9,10 @@ use Rattle.ir_tree.specs.declared.instr.CastOp.TheVariants as casts
 use Rattle.ir_tree.specs.declared.instr.Instr.{Instr}
 use Rattle.ir_tree.specs.declared.instr.Instr.TheVariants.{Binary, Icmp, Cast, Select, Freeze, Alloca, Load, Store, Address, Call, Phi}
 use Rattle.ir_parse_parts.specs.Forms.{Form, ◌>>=◌}
-use Rattle.ir_parse_instructions.specs.Addressing.{reserving, addressing, slots_fit}
+use Rattle.ir_parse_operands.specs.Addressing.{reserving, addressing, slots_fit}
 use Rattle.ir_parse_parts.specs.Classes.{the}
-use Rattle.ir_parse_instructions.specs.Instructions.{wrapping, dividing, joining, on_two, no_flags, comparing, extending, narrowing, selecting, freezing, loading, storing}
-use Rattle.ir_parse_instructions.specs.Phis.{phi}
+use Rattle.ir_parse_bodies.specs.Instructions.{wrapping, dividing, joining, on_two, no_flags, comparing, extending, narrowing, selecting, freezing, loading, storing}
+use Rattle.ir_parse_bodies.specs.Phis.{phi}
 use Rattle.ir_parse_operands.specs.ShapeForms.{memory_shape}
 use Rattle.ir_parse_parts.specs.declared.raw.Instr as raw
 use Rattle.ir_round_trip.specs.Classes.{binary_class, cast_class}

@@ -31,7 +31,7 @@ ghost use Rattle.ir_parse_parts.specs.Operands as read;
 ghost use Rattle.ir_parse_parts.specs.Operands.{named};
 ghost use Rattle.ir_parse_operands.specs.ShapeForms.{memory_shape};
 ghost use Rattle.ir_parse_heads.specs.Targets.{fits_layout, target_line};
-ghost use Rattle.ir_parse_instructions.specs.Terminators as ends;
+ghost use Rattle.ir_parse_operands.specs.Terminators as ends;
 ghost use Rattle.ir_parse_operands.specs.Values.{operand, argument};
 ghost use Rattle.ir_parse_heads.specs.declared.function_heads.Role.TheVariants as roles;
 ghost use Rattle.ir_tree.specs.Formed.{IsWidth, IsReg, IsResult, IsScalar, ItemFormed};

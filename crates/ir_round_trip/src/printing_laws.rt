@@ -17,7 +17,7 @@ ghost use Rattle.ir_print.specs.Operands.{operand, all_typed};
 ghost use Rattle.ir_print.specs.Tokens.{space, tight, mark};
 ghost use Rattle.ir_print.specs.Types as types;
 ghost use Rattle.ir_print.specs.Variables as variables;
-ghost use Rattle.ir_parse_instructions.specs.Addressing.{slots_fit};
+ghost use Rattle.ir_parse_operands.specs.Addressing.{slots_fit};
 ghost use Rattle.ir_parse_parts.specs.Operands.{local};
 ghost use Rattle.ir_parse_operands.specs.ShapeForms.{memory_shape};
 ghost use Rattle.ir_parse_parts.specs.declared.raw.Item.{Item};

@@ -1,0 +1,15 @@
+use Rattle.std.proofs.Common.{arith}
+use Rattle.ir_parse_bodies.proofs.BehindCommas.{loading_is}
+use Rattle.ir_parse_bodies.proofs.instructions.loading_into.Goals as goal
+
+pub returns : goal.returns
+returns c = grind (arith, loading_is)
+
+pub returns-in_err-reg : goal.returns-in_err-reg
+returns-in_err-reg c = grind (arith, loading_is)
+
+pub returns-in_err-address : goal.returns-in_err-address
+returns-in_err-address c = grind (arith, loading_is)
+
+pub returns-in_err-align : goal.returns-in_err-align
+returns-in_err-align c = grind (arith, loading_is)
