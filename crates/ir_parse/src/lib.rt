@@ -1,13 +1,15 @@
 //! Reads bytes as the one module of LLVM IR that they are, or tells their first fault.
 //!
-//! Below stand tokens (`ir_lex`), the parts of items (`ir_parse_parts`), heads and target lines (`ir_parse_heads`), definitions of
-//! functions (`ir_parse_bodies`), variables and type definitions (`ir_parse_globals`), names (`ir_parse_names`), the stages of names and
-//! shapes (`ir_parse_stages`), and the functions and variables that are made (`ir_parse_values`). [`parse`] cuts the text into
-//! tokens, reads these as items, resolves names, shapes and numbers in stages over the whole text, and gives the module
-//! with the lines of its parts. The first place at which no reading goes on is a statement of the grammar alone, and so
-//! is why the token there is refused (`specs/Refusals`); behind it the first stage that finds a fault tells it. Beside
-//! the reader stand laws: what resolves is formed (`resolved`), and what that asks of a text holds of all that the
-//! grammar spells (`spelled`).
+//! Below stand tokens (`ir_lex`), the parts of items (`ir_parse_parts`), heads and target lines (`ir_parse_heads`),
+//! definitions of functions (`ir_parse_bodies`), variables and type definitions (`ir_parse_globals`), names
+//! (`ir_parse_names`), the stages of names (`ir_parse_stages`) and the sizes of shapes (`ir_parse_sizes`), and the
+//! functions and variables that are made (`ir_parse_values`). [`parse`] cuts the text into tokens, reads these as
+//! items, resolves names, shapes and numbers in stages over the whole text, and gives the module with the lines of its
+//! parts. Between the stages of type names and of names of globals [`shapes_within`] refuses a shape past the limits
+//! and an index that counts no part. The first place at which no reading goes on is a statement of the grammar alone,
+//! and so is why the token there is refused (`specs/Refusals`); behind it the first stage that finds a fault tells it.
+//! Beside the reader stand laws: what resolves is formed (`resolved`), and what that asks of a text holds of all that
+//! the grammar spells (`spelled`).
 //!
 //! **Promise.** [`parse`] answers exactly what `specs/Reading` reads, and refuses each other text for its first fault
 //! (`specs/FirstFault`), unless memory runs out. Bytes are read as one module or have one first fault ([`decided`],
@@ -22,6 +24,7 @@
 
 mod fault;
 mod grammar;
+mod item_limits;
 mod items;
 mod laws;
 mod reading;
@@ -33,6 +36,7 @@ mod value_lines;
 mod values;
 
 pub use fault::{ReadError, ReadFault};
+pub use item_limits::shapes_within;
 pub use laws::{decided, one_reading, read_is_parsed};
 pub use reading::parse;
 pub use resolved::{

@@ -6,11 +6,12 @@ ghost use Rattle.ir_parse_names.specs.Resolving.{ResolvesTo};
 ghost use Rattle.ir_parse.specs.Stages.{module_behind, module_in, module_with};
 ghost use Rattle.ir_parse.specs.Values.{values_in};
 
+use crate::item_limits::shapes_within;
 use crate::targets::{datalayout_of, triple_of};
 use crate::values::values_in;
 use ir_parse_names::{ResolveError, Types, groups_of};
 use ir_parse_parts::Item;
-use ir_parse_stages::{Marks, gather, globals_in, shapes_within, types_in};
+use ir_parse_stages::{Marks, gather, globals_in, types_in};
 use ir_tree::{GlobalValue, Module, Rows};
 use std::alloc::Global;
 

@@ -1,5 +1,5 @@
-mod Free
-mod Searched
 mod Small
 mod Weighing
 mod Measured
+pub mod Within
+mod Levels

@@ -1,3 +1,2 @@
-pub mod Circles
 pub mod Measures
-pub mod Searching
+pub mod Reserved

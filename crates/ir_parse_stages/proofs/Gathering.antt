@@ -1,11 +1,8 @@
 -- Marks behind marks.
-use Rattle.std.proofs.Common.{◌≡◌, sym, ap, ◌∙◌, ℕ, suc, ◌+◌, ◌<◌, List, ◌∷◌, ◌++◌, length, drop, get_or, append_assoc, add-one, drop-cons}
+use Rattle.std.proofs.Common.{◌≡◌, sym, ap, ◌∙◌, ℕ, ◌+◌, ◌<◌, List, ◌∷◌, ◌++◌, length, drop, get_or, append_assoc}
 use Rattle.ir_parse_parts.specs.declared.address.Level.{Level}
 use Rattle.ir_parse_names.specs.Marks.{Mark, uses, level_uses}
-
--- what is left from k on begins with the item at k
-pub here : {A : Type 0} (xs : List A) (k : ℕ) (x : A) → k < length xs → x ≡ get_or xs k x → drop k xs ≡ x ∷ drop (k + 1) xs
-here xs k x at is = drop-cons xs k x at ∙ ap (λ y. y ∷ drop (suc k) xs) (sym is) ∙ ap (λ n. x ∷ drop n xs) (sym (add-one k))
+use Rattle.ir_parse_names.proofs.Each.{here}
 
 -- marks, and then more
 pub joined : (first second old mid new : List Mark) → mid ≡ old ++ first → new ≡ mid ++ second → new ≡ old ++ (first ++ second)

@@ -1,6 +1,6 @@
 mod Gathering
 mod Kept
-mod Levels
 mod Runs
 mod Marked
-mod Within
+mod Free
+mod Searched

@@ -4,13 +4,13 @@ use Rattle.ir_parse_names.specs.declared.fault.Fault.{Fault}
 use Rattle.ir_parse_names.specs.Globals.{Globals}
 use Rattle.ir_parse_names.specs.Marks.{Mark, type_name, type_use, shape, many, global, symbol, address}
 use Rattle.ir_parse_names.specs.Resolving.{◌>>=◌}
-use Rattle.ir_parse_names.specs.Stages.{with_global_name, global_names, named, all_named, mark_within, marks_within}
+use Rattle.ir_parse_names.specs.Stages.{with_global_name, global_names, named, all_named}
 use Rattle.ir_parse_names.specs.TypeNames.{with_first, first_types, typed_by, all_typed, place_of, put, places}
 use Rattle.ir_parse_names.specs.Keys.{key_of}
 use Rattle.ir_parse_names.specs.Types.{Types}
 use Rattle.ir_parse_stages.specs.declared.mark.Mark as code
 use Rattle.ir_parse_stages.specs.MarkViews.{standing, marks}
-use Rattle.ir_parse_stages.proofs.Gathering.{here}
+use Rattle.ir_parse_names.proofs.Each.{here}
 
 -- ---- stages
 
@@ -26,9 +26,6 @@ names found ms = Ok (global_names found ms)
 
 abbrev pub row : Types → List ℕ → List Mark → Result (List ℕ) Fault
 row types front ms = Ok (front ++ places types ms)
-
-abbrev pub within : Types → Unit {0} → List Mark → Result (Unit {0}) Fault
-within types u ms = marks_within types ms
 
 first_more : (types : Types) (xs ys : List Mark) → first_types types (xs ++ ys) ≡ first_types (first_types types xs) ys
 first_more types [] ys = refl
@@ -68,10 +65,6 @@ typed_more all types (x ∷ xs) ys = bound (typed_by all types x) (λ t. all_typ
 pub named_more : (found : List (List ℕ)) (g : Globals) (xs ys : List Mark) → all_named found g (xs ++ ys) ≡ (all_named found g xs >>= λ h. all_named found h ys)
 named_more found g [] ys = refl
 named_more found g (x ∷ xs) ys = bound (named found g x) (λ t. all_named found t (xs ++ ys)) (λ t. all_named found t xs) (λ t. all_named found t ys) (λ t. named_more found t xs ys)
-
-pub within_more : (types : Types) (u : Unit {0}) (xs ys : List Mark) → within types u (xs ++ ys) ≡ (within types u xs >>= λ t. within types t ys)
-within_more types u [] ys = refl
-within_more types u (x ∷ xs) ys = bound (mark_within types x) (λ t. within types t (xs ++ ys)) (λ t. within types t xs) (λ t. within types t ys) (λ t. within_more types t xs ys)
 
 -- ---- loops over marks
 

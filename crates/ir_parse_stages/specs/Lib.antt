@@ -1,3 +1,4 @@
 pub mod MarkCode
 pub mod MarkViews
-pub mod Reserved
+pub mod Circles
+pub mod Searching

@@ -5,10 +5,10 @@ ghost use Rattle.ir_parse_names.specs.Types as typing;
 ghost use Rattle.ir_parse_names.specs.TypeNames.{places, put, uses_in, graph_of, graph_from};
 ghost use Rattle.ir_parse_stages.specs.MarkViews.{standing, marks};
 
+use crate::graph::Graph;
 use crate::mark::{Mark, Marks};
 use crate::uses::uses;
 use ir_parse_names::{ResolveError, TypeNames};
-use ir_parse_sizes::Graph;
 use std::alloc::{AllocError, Global};
 
 /// One more place, where there is one.

@@ -5,11 +5,11 @@ ghost use Rattle.ir_parse_names.specs.Resolving.{ResolvesTo};
 ghost use Rattle.ir_parse_names.specs.TypeNames.{first_types, all_typed, use_in, holds_itself, graph_of, type_names};
 ghost use Rattle.ir_parse_stages.specs.MarkViews.{standing, marks};
 
+use crate::circles::Circles;
 use crate::mark::{Mark, Marks};
 use crate::name_graph::graph_of;
 use ir_parse_names::{ResolveError, TypeNames, Types, shape_if, unknown};
 use ir_parse_parts::Name;
-use ir_parse_sizes::Circles;
 use std::alloc::Global;
 
 fn with_first<'t>(

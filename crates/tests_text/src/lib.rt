@@ -2,7 +2,7 @@
 //!
 //! They try trees, tokens, printed forms, edits and data flow (`ir_tree`, `ir_lex`, `ir_print`, `ir_edit`, `ir_flow`);
 //! numbers that digits write (`ir_parse_parts`); first faults of items, and whole modules, as they are printed or refused
-//! (`ir_parse`), some of them read again from their print; the circles of one graph (`ir_parse_sizes`); and the verifier
+//! (`ir_parse`), some of them read again from their print; the circles of one graph (`ir_parse_stages`); and the verifier
 //! (`ir_verify`). Like cases are rows of one constant table, which one test reads: a row of a constant costs the proof
 //! next to nothing, a row in a function's body a second and more. The tests stand above the crates, so that their own
 //! proofs are not done twice, and in one crate, so that their statements are loaded once.

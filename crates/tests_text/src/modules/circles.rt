@@ -1,6 +1,6 @@
 //! A graph, and its places that a walk leads back to.
 
-use ir_parse_sizes::{Circles, Graph};
+use ir_parse_stages::{Circles, Graph};
 use std::alloc::Global;
 
 /// Of three places, the second leads to the third and back, the first to the second.

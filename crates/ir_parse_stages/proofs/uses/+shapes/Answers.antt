@@ -2,7 +2,8 @@ use Rattle.std.proofs.Common.{◌≤◌, subst, refl, arith}
 use Rattle.ir_parse_parts.specs.Shapes.{parts_of}
 use Rattle.ir_parse_parts.specs.ShapeSizes.{all_nodes}
 use Rattle.ir_parse_names.specs.Marks.{uses, all_uses}
-use Rattle.ir_parse_stages.proofs.Gathering.{here, goes_on}
+use Rattle.ir_parse_names.proofs.Each.{here}
+use Rattle.ir_parse_stages.proofs.Gathering.{goes_on}
 use Rattle.ir_parse_stages.proofs.uses.+shapes.Goals as goal
 
 pub all_uses-each-preserved : goal.all_uses-each-preserved

@@ -1,0 +1,18 @@
+use Rattle.std.proofs.Common.{ap, ◌∙◌}
+use Rattle.std.proofs.lemmas.Result.{err_from_is_err_and}
+use Rattle.std.specs.Prelude.{Err}
+use Rattle.ir_tree.specs.declared.failure.Failure.{Failure}
+use Rattle.ir_parse_names.specs.declared.fault.Fault.{Fault}
+use Rattle.ir_parse_names.specs.Marks.{block_marks}
+use Rattle.ir_parse_sizes.proofs.Within.{fails, goes_on}
+use Rattle.ir_parse_sizes.proofs.instruction_limits.blocks_within.Goals as goal
+
+pub returns-in_err-block_within : goal.returns-in_err-block_within
+returns-in_err-block_within c =
+    let e : Failure Fault = c.in_err-block_within.field-0.0 in
+    let p = err_from_is_err_and c.from_residual.result c.from_residual.ensures.1 in
+    fails c.args.types.now block_marks c.args.rows.now c.each.block-index c.block-item.result _ c.each-test.true c.block-item.is c.each.invariant e c.from_residual.result
+    (p.1 ∙ ap (λ (x : Failure Fault). Err x) p.2) c.in_err-block_within.ensures
+
+pub each-preserved : goal.each-preserved
+each-preserved c = goes_on c.args.types.now block_marks c.args.rows.now c.each.block-index c.block-item.result _ c.each-test.true c.block-item.is c.each.invariant c.in_ok-block_within.ensures

@@ -1,9 +1,0 @@
-use Rattle.std.proofs.Common.{length, ◌-◌}
-use Rattle.ir_parse_sizes.specs.Searching.{IsSearch}
-use Rattle.ir_parse_sizes.proofs.search.is_on_circle.Given as goal
-
-abbrev pub invariant-each : goal.invariant-each
-invariant-each l = IsSearch l.graph l.start l.search.found.items l.search.seen.items l.head
-
-abbrev pub decreases-each : goal.decreases-each
-decreases-each l = length l.graph - l.head
