@@ -8,6 +8,7 @@ mod Naming
 mod NoneTaken
 pub mod Offered
 pub mod Once
+mod Reached
 mod Ruling
 mod Table
 pub mod Turning

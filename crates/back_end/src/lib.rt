@@ -17,7 +17,8 @@
 //! function only that is made of each sound one ([`made_is_one`]).
 //!
 //! **Cost.** That of the passes; a walk goes over the function once, and costs what the function and the bodies that it
-//! takes are long. No walk or turn is made behind one that changed nothing.
+//! takes are long. No walk or turn is made behind one that changed nothing. Blocks that are reached are not looked for
+//! in the first turn where the caller knows that all are and nothing was inlined.
 //!
 //! **Not shown.** That the result is faster or shorter; that memory is found.
 #![tactic(auto)]

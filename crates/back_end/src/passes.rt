@@ -1,5 +1,6 @@
 //! The order of the passes.
-ghost use Rattle.std.specs.Prelude.{◌≡◌, ◌||◌, false, IfOk};
+ghost use Rattle.std.specs.Prelude.{◌≡◌, ◌&&◌, ◌||◌, false, not, true, IfOk};
+ghost use Rattle.ir_tree.specs.Flow.{AllReached};
 ghost use Rattle.ir_tree.specs.Rules.{Sound};
 ghost use Rattle.ir_tree.specs.declared.function.Function.{Function};
 ghost use Rattle.ir_edit.specs.Numbered.{in_text_order};
@@ -94,16 +95,41 @@ fn turn_from_branches(
     Ok((g, either(decided, changed)))
 }
 
+/// The blocks that are reached, where all are: those of a function that has fewer than `2^32`.
+fn all_blocks(alloc: Global, f: &Function) -> Result<Bits, AllocError>
+    requires { AllReached f.now }
+    ensures { IfOk result (IsReach f.now) }
+{
+    let blocks = f.blocks.len();
+    if blocks > u32::MAX as usize {
+        return Err(AllocError);
+    }
+    let full = Bits::full(alloc, blocks as u32)?;
+    Ok(full)
+}
+
+/// The blocks that are reached, which are looked for where it isn't known that all are.
+fn reached_first(alloc: Global, f: &Function, known: bool) -> Result<Bits, AllocError>
+    requires { known ≡ true → AllReached f.now }
+    ensures { IfOk result (IsReach f.now) }
+{
+    if known {
+        return all_blocks(alloc, f);
+    }
+    reachable(alloc, f)
+}
+
 /// Copies and constants propagated, decided branches as jumps, what isn't reached gone, blocks joined, and then what
-/// nobody needs gone; and whether that may have changed the function.
-fn turn(alloc: Global, f: Function) -> Result<(Function, bool), AllocError>
+/// nobody needs gone; and whether that may have changed the function. Its caller may know that all blocks are reached.
+fn turn(alloc: Global, f: Function, known: bool) -> Result<(Function, bool), AllocError>
     requires sound { Sound f }
+    requires known { known ≡ true → AllReached f }
     ensures made { IfOk result (λ made. IsTurn f made.0) }
     ensures sound { IfOk result (λ made. Sound made.0) }
     ensures same { IfOk result (λ made. made.1 ≡ false → made.0 ≡ f) }
 {
     turn_is_better();
-    let reached = reachable(alloc, &f)?;
+    let reached = reached_first(alloc, &f, known)?;
     let (propagated, replaced) = into_applied(alloc, f, &reached)?;
     let (g, changed) = turn_from_branches(alloc, propagated, reached)?;
     Ok((g, either(replaced, changed)))
@@ -114,20 +140,21 @@ fn two_turns(alloc: Global, f: Function) -> Result<Function, AllocError>
     requires sound { Sound f }
     ensures { IfOk result (λ g. AreTurns 2 f g) }
 {
-    let (once, changed) = turn(alloc, f)?;
+    let (once, changed) = turn(alloc, f, false)?;
     if !changed {
         return Ok(once);
     }
-    let (g, _) = turn(alloc, once)?;
+    let (g, _) = turn(alloc, once, false)?;
     Ok(g)
 }
 
 /// Three turns, of which those are left out that stand behind one that changes nothing.
-fn turns(alloc: Global, f: Function) -> Result<Function, AllocError>
+fn turns(alloc: Global, f: Function, known: bool) -> Result<Function, AllocError>
     requires sound { Sound f }
+    requires known { known ≡ true → AllReached f }
     ensures { IfOk result (λ g. AreTurns 3 f g) }
 {
-    let (once, changed) = turn(alloc, f)?;
+    let (once, changed) = turn(alloc, f, known)?;
     if !changed {
         return Ok(once);
     }
@@ -149,74 +176,106 @@ fn two_walks(alloc: Global, bodies: &Bodies<'_>, f: Function) -> Result<Function
     Ok(g)
 }
 
-/// Three walks, of which those are left out that stand behind one that changes nothing.
-fn walks(alloc: Global, bodies: &Bodies<'_>, f: Function) -> Result<Function, AllocError>
+/// Three walks, of which those are left out that stand behind one that changes nothing; and whether that may have changed the
+/// function.
+fn walks(alloc: Global, bodies: &Bodies<'_>, f: Function) -> Result<(Function, bool), AllocError>
     requires sound { Sound f }
     requires bodies { AreSound (bodies_in bodies.now) }
-    ensures walks { IfOk result (λ g. AreWalks 3 (bodies_in bodies.now) f g) }
-    ensures sound { IfOk result (λ g. Sound g) }
+    ensures walks { IfOk result (λ walked. AreWalks 3 (bodies_in bodies.now) f walked.0) }
+    ensures sound { IfOk result (λ walked. Sound walked.0) }
+    ensures same { IfOk result (λ walked. walked.1 ≡ false → walked.0 ≡ f) }
 {
     let (once, changed) = into_walked(alloc, bodies, f)?;
     if !changed {
-        return Ok(once);
+        return Ok((once, false));
     }
-    two_walks(alloc, bodies, once)
+    let g = two_walks(alloc, bodies, once)?;
+    Ok((g, true))
 }
 
 /// Three turns, and then numbers in the order of the text.
-fn turned(alloc: Global, f: Function) -> Result<Function, AllocError>
+fn turned(alloc: Global, f: Function, known: bool) -> Result<Function, AllocError>
     requires sound { Sound f }
+    requires known { known ≡ true → AllReached f }
     ensures { IfOk result (λ g. (turned : Function) × AreTurns 3 f turned × (g ≡ in_text_order turned)) }
 {
-    let turned = turns(alloc, f)?;
+    let turned = turns(alloc, f, known)?;
     let g = renumber(alloc, &turned)?;
     Ok(g)
 }
 
-/// Stack slots as values, three turns, and then numbers in the order of the text.
-fn promoted(alloc: Global, f: Function) -> Result<Function, AllocError>
+/// Stack slots as values, three turns, and then numbers in the order of the text. The slots' values go over the edges that
+/// are there.
+fn promoted(alloc: Global, f: Function, known: bool) -> Result<Function, AllocError>
     requires sound { Sound f }
+    requires known { known ≡ true → AllReached f }
     ensures { IfOk result (λ g. (turned : Function) × AreTurns 3 (promoted_function f) turned × (g ≡ in_text_order turned)) }
 {
     let promoted = into_promoted(alloc, f)?;
-    turned(alloc, promoted)
+    turned(alloc, promoted, known)
+}
+
+/// Whether what is known of a function is known of it still, which may have been changed.
+fn still(known: bool, changed: bool) -> bool
+    ensures { result ≡ (known && not changed) }
+{
+    known && !changed
 }
 
 /// Bodies inlined, stack slots as values, three turns, and then numbers in the order of the text.
-fn optimised(alloc: Global, bodies: &Bodies<'_>, f: Function) -> Result<Function, AllocError>
+fn optimised(
+    alloc: Global,
+    bodies: &Bodies<'_>,
+    f: Function,
+    known: bool,
+) -> Result<Function, AllocError>
     requires sound { Sound f }
     requires bodies { AreSound (bodies_in bodies.now) }
+    requires known { known ≡ true → AllReached f }
     ensures { IfOk result (λ g. IsOptimised (bodies_in bodies.now) f g) }
 {
-    let walked = walks(alloc, bodies, f)?;
-    promoted(alloc, walked)
+    let (walked, changed) = walks(alloc, bodies, f)?;
+    promoted(alloc, walked, still(known, changed))
 }
 
-fn made(alloc: Global, bodies: &Bodies<'_>, f: &Function) -> Result<Function, AllocError>
+fn made(
+    alloc: Global,
+    bodies: &Bodies<'_>,
+    f: &Function,
+    known: bool,
+) -> Result<Function, AllocError>
     requires sound { Sound f.now }
     requires bodies { AreSound (bodies_in bodies.now) }
+    requires known { known ≡ true → AllReached f.now }
     ensures { IfOk result (λ g. IsMade (bodies_in bodies.now) f.now g) }
 {
     let copy = f.duplicate(alloc)?;
     if copy.optnone {
         Ok(copy)
     } else {
-        optimised(alloc, bodies, copy)
+        optimised(alloc, bodies, copy, known)
     }
 }
 
 /// What the back end makes of a sound function with these bodies: optimised, unless it is `optnone` (LangRef, "Function
 /// Attributes").
 ///
-/// It is sound, and better in every program whose own the bodies are. A number past 32 bits is answered as want of memory.
-pub fn compile(alloc: Global, bodies: &Bodies<'_>, f: &Function) -> Result<Function, AllocError>
+/// It is sound, and better in every program whose own the bodies are. Its caller may know that all blocks of the function are
+/// reached, and they aren't looked for then where nothing is inlined. A number past 32 bits is answered as want of memory.
+pub fn compile(
+    alloc: Global,
+    bodies: &Bodies<'_>,
+    f: &Function,
+    reached: bool,
+) -> Result<Function, AllocError>
     requires sound { Sound f.now }
     requires bodies { AreSound (bodies_in bodies.now) }
+    requires reached { reached ≡ true → AllReached f.now }
     ensures made { IfOk result (λ g. IsMade (bodies_in bodies.now) f.now g) }
     ensures better { IfOk result (λ g. IsBetterWith (bodies_in bodies.now) g f.now) }
     ensures sound { IfOk result (λ g. Sound g) }
 {
     made_is_better();
-    let g = made(alloc, bodies, f)?;
+    let g = made(alloc, bodies, f, reached)?;
     Ok(g)
 }
