@@ -17,6 +17,7 @@ pub mod Own
 pub mod Kept
 pub mod Tabled
 mod Scoped
+mod Reached
 pub mod Runs
 pub mod Sounds
 pub mod Composed

@@ -240,7 +240,7 @@ module _ (t : Naming) where
   leading_to_same bs None = refl
   leading_to_same bs (Some b) = leading_same b.number 0 bs
 
-  edges_same : (f : Function) (b : ℕ) → edges (function_under t f) b ≡ edges f b
+  pub edges_same : (f : Function) (b : ℕ) → edges (function_under t f) b ≡ edges f b
   edges_same f b =
       ap (λ (o : Option Block). leading_to (map (block_under t) f.blocks) o) (slice_get-map (block_under t) f.blocks b) ∙ leading_to_same f.blocks (slice_get f.blocks b)
 

@@ -83,6 +83,15 @@ module _ (table : Symbols) (scope : Scope) (g : GlobalValue) (chosen : Option �
   pub given_else : given_where scope.link (prevails_as chosen scope.number (standing_of g)) (symbol_for scope (symbol_of g)) ≡ false → [] ≡ given_one table scope g
   given_else test = ap (λ (b : Bool). if b then global_under (names_by scope) g ∷ [] else []) (sym test ∙ gives_is)
 
+pub each_more : (table : Symbols) (scope : Scope) (gs : List GlobalValue) (i : ℕ) (g : GlobalValue) → i < length gs → g ≡ slice_index_or gs i g → (rows more whole : List GlobalValue)
+    → more ≡ rows ++ given_one table scope g → rows ++ given_each table scope (drop i gs) ≡ whole → more ++ given_each table scope (drop (i + 1) gs) ≡ whole
+each_more table scope gs i g lt is rows more whole e_more so_far =
+    let here : drop i gs ≡ g ∷ drop (i + 1) gs = left gs i g lt ∙ ap (λ (x : GlobalValue). x ∷ drop (i + 1) gs) (sym is) in
+    ap (λ (x : List GlobalValue). x ++ given_each table scope (drop (i + 1) gs)) e_more
+    ∙ append_assoc rows (given_one table scope g) (given_each table scope (drop (i + 1) gs))
+    ∙ ap (λ (l : List GlobalValue). rows ++ given_each table scope l) (sym here)
+    ∙ so_far
+
 -- ---- one more module
 
 pub merged_more : (table : Symbols) (ms : List Module) (i : ℕ) (d : Module) → i < length ms → d ≡ slice_index_or ms i d → (k next : ℕ) → next ≡ suc k

@@ -6,9 +6,10 @@
 //! says which program one module means. A link puts better functions in the places of its functions, keeps of these
 //! definitions the live ones, and gives each its final name (`specs/Linked`). It compiles module by module: each
 //! module's part has those of its definitions that prevail and are live, under final names (`specs/Lives`,
-//! [`live_by_module`]). Words that the rooms of a link share stand here too: values by name (`specs/ByName`), the
-//! functions of the system (`specs/Hosts`), values that can stand in one module (`specs/Linkable`). Below stand
-//! `ir_tree`, `ir_meaning`, `symbol_resolve` (what prevails) and `combined_index` (marks and suffixes).
+//! [`live_by_module`]), with what verification found of their control flow (`ir_flow`). Words that the rooms of a link
+//! share stand here too: values by name (`specs/ByName`), the functions of the system (`specs/Hosts`), values that can
+//! stand in one module (`specs/Linkable`). Below stand `ir_tree`, `ir_meaning`, `symbol_resolve` (what prevails) and
+//! `combined_index` (marks and suffixes).
 //!
 //! **Promise.** [`program`] makes the merged program's list of global values, and [`parts`] the parts. Laws, as
 //! functions with empty bodies: the definition that prevails is the one that a resolution names

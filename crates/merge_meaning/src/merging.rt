@@ -9,6 +9,7 @@ ghost use Rattle.merge_meaning.specs.Given.{merged_in};
 ghost use Rattle.merge_meaning.specs.Merged.{declaration, merged_globals, with_host};
 
 use crate::giving::give;
+use ir_flow::MarkedValue;
 use ir_meaning::symbol_of;
 use ir_tree::{Function, GlobalValue, Linkage, Reg, Rows, Symbol, Text, Verified};
 use std::alloc::{AllocError, Global};
@@ -19,25 +20,29 @@ fn given(
     alloc: Global,
     modules: &[Verified],
     resolution: &Resolution,
-) -> Result<Rows<GlobalValue>, AllocError>
+) -> Result<Rows<MarkedValue>, AllocError>
     ensures rows { IfOk result (λ gs. gs ≡ merged_in resolution.now 0 modules.now) }
     ensures verified { OnOk result (All IsVerified modules.now) }
 {
     let mut rows = Rows::new(alloc);
     let mut number: u32 = 0;
     for verified in modules {
-        give(
-            alloc,
-            &mut rows,
-            None,
-            number,
-            verified.module().globals.as_slice(),
-            resolution,
-        )?;
+        give(alloc, &mut rows, None, number, verified, resolution)?;
         let Some(next) = number.checked_add(1) else {
             return Err(AllocError);
         };
         number = next;
+    }
+    Ok(rows)
+}
+
+/// These values without their marks.
+fn values_of(alloc: Global, marked: Rows<MarkedValue>) -> Result<Rows<GlobalValue>, AllocError>
+    ensures { IfOk result (λ gs. gs ≡ marked) }
+{
+    let mut rows = Rows::new(alloc);
+    for value in marked.into_vec() {
+        rows.push(value.into_value())?;
     }
     Ok(rows)
 }
@@ -104,7 +109,8 @@ pub fn program(
     ensures merged { IfOk result (λ gs. gs ≡ merged_globals modules.now) }
     ensures runnable { IfOk result (λ gs. AreRunnable gs) }
 {
-    let mut rows = given(alloc, modules, resolution)?;
+    let marked = given(alloc, modules, resolution)?;
+    let mut rows = values_of(alloc, marked)?;
     add_host(alloc, &mut rows, b"putchar")?;
     add_host(alloc, &mut rows, b"getchar")?;
     Ok(rows)

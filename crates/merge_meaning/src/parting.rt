@@ -8,7 +8,8 @@ ghost use Rattle.merge_meaning.specs.Scopes.{keeps};
 
 use crate::giving::give;
 use crate::lives::{Link, LiveSymbols};
-use ir_tree::{GlobalValue, Rows, Text, Verified};
+use ir_flow::MarkedValue;
+use ir_tree::{Rows, Text, Verified};
 use std::alloc::{AllocError, Global};
 use symbol_resolve::Resolution;
 
@@ -19,12 +20,11 @@ fn part(
     number: u32,
     verified: &Verified,
     resolution: &Resolution,
-) -> Result<Rows<GlobalValue>, AllocError>
+) -> Result<Rows<MarkedValue>, AllocError>
     ensures { IfOk result (λ part. part ≡ given_in resolution.now (Some link.entry) number verified.now.globals) }
 {
     let mut rows = Rows::new(alloc);
-    let globals = verified.module().globals.as_slice();
-    give(alloc, &mut rows, Some(link), number, globals, resolution)?;
+    give(alloc, &mut rows, Some(link), number, verified, resolution)?;
     Ok(rows)
 }
 
@@ -33,7 +33,7 @@ fn all_parts(
     link: Link,
     modules: &[Verified],
     resolution: &Resolution,
-) -> Result<Vec<Rows<GlobalValue>>, AllocError>
+) -> Result<Vec<Rows<MarkedValue>>, AllocError>
     ensures { IfOk result (λ all. all.items ≡ parts_in resolution.now link.entry 0 modules.now) }
 {
     let mut all = Vec::new(alloc);
@@ -48,8 +48,8 @@ fn all_parts(
     Ok(all)
 }
 
-/// The part of each module: those of its definitions that prevail and are live, under final names. The resolution is that of the
-/// modules; the suffixes are theirs too.
+/// The part of each module: those of its definitions that prevail and are live, under final names, with the marks that verification
+/// gave them. The resolution is that of the modules; the suffixes are theirs too.
 ///
 /// Beside want of memory, `2^32` modules or more are refused as too many. What is kept is copied once, and each name is looked up
 /// once or twice.
@@ -59,7 +59,7 @@ pub fn parts(
     resolution: &Resolution,
     live: &LiveSymbols,
     suffixes: &[Text],
-) -> Result<Vec<Rows<GlobalValue>>, AllocError>
+) -> Result<Vec<Rows<MarkedValue>>, AllocError>
     requires { resolution.now ≡ symbols modules.now }
     ensures { IfOk result (λ all. (index : List Symbol) (marks : List Bool) → ((s : Symbol) → keeps live.now s ≡ is_live index marks s) → all.items ≡ parts modules.now index marks suffixes.now) }
 {

@@ -1,10 +1,16 @@
-use Rattle.std.proofs.Common.{◌≡◌, ◌∙◌, ◌++◌, List, ap, sym}
+use Rattle.std.proofs.Common.{◌≡◌, ◌∙◌, ◌++◌, List, ap, subst, sym}
 use Rattle.std.proofs.lemmas.List.{append-nil}
 use Rattle.ir_tree.specs.declared.module.GlobalValue.{GlobalValue}
 use Rattle.ir_meaning.specs.Programs.{symbol_of}
 use Rattle.symbol_resolve.specs.Resolved.{module_of}
+use Rattle.ir_tree.specs.Wholes.{GlobalReached}
+use Rattle.merge_meaning.specs.Scopes.{names_by}
+use Rattle.merge_meaning.proofs.Reached.{reached_under}
 use Rattle.merge_meaning.proofs.Tabled.{given_else, given_then}
 use Rattle.merge_meaning.proofs.giving.give_one.Goals as goal
+
+pub of-requires : goal.of-requires
+of-requires c reached = subst GlobalReached (sym c.in_ok-value.ensures) (reached_under (names_by c.args.scope.now) c.args.global.now (c.requires reached))
 
 pub returns-in_ok-push : goal.returns-in_ok-push
 returns-in_ok-push c =
@@ -12,7 +18,7 @@ returns-in_ok-push c =
     c.module_of-chosen.ensures ∙ ap (module_of c.args.resolution.now) c.name_of.ensures in
     c.in_ok-push.ensures.ok
     ∙ ap (λ (l : List GlobalValue). c.args.rows.now ++ l)
-    (given_then c.args.resolution.now c.args.scope.now c.args.global.now c.module_of-chosen.result chosen c.in_ok-taken.field-0 (sym c.gives.ensures ∙ c.if-gives.true) c.in_ok-taken.ensures)
+    (given_then c.args.resolution.now c.args.scope.now c.args.global.now c.module_of-chosen.result chosen c.of.result (sym c.gives.ensures ∙ c.if-gives.true) (c.of.ensures ∙ c.in_ok-value.ensures))
 
 pub returns-else-gives : goal.returns-else-gives
 returns-else-gives c =

@@ -1,4 +1,4 @@
-use Rattle.std.proofs.Common.{◌≡◌, ◌∙◌, List, suc, take_all, ap, subst, arith, rules}
+use Rattle.std.proofs.Common.{◌≡◌, List, suc, take_all, refl, subst, arith, rules}
 use Rattle.std.specs.Prelude.{All}
 use Rattle.std.proofs.lemmas.List.Elements.{All-more}
 use Rattle.ir_tree.specs.Wholes.{IsVerified}
@@ -11,10 +11,10 @@ loop-verified-preserved c =
     let next : c.in-Some.next ≡ suc c.loop-verified.number = search rules in
     record {
       rows = merged_more c.args.resolution.now c.args.modules.now c.loop-verified.verified-index c.verified-item.result c.loop-verified-test.true c.verified-item.is c.loop-verified.number
-          c.in-Some.next next c.loop-verified.rows c.give.new.rows _ c.as_slice.result.now (c.as_slice.ensures ∙ ap (λ (m : Module). m.globals) c.module.ensures.module) c.in_ok-give.ensures
+          c.in-Some.next next c.loop-verified.rows c.give.new.rows _ c.verified-item.result.globals refl c.in_ok-give.ensures.given
           c.loop-verified.invariant.rows;
       verified = All-more IsVerified c.args.modules.now c.loop-verified.verified-index c.verified-item.result c.loop-verified-test.true c.loop-verified.invariant.verified
-          (subst (λ (m : Module). IsVerified m) c.verified-item.is c.module.ensures.sound);
+          (subst (λ (m : Module). IsVerified m) c.verified-item.is c.in_ok-give.ensures.verified);
     }
 
 pub returns-clause-verified : goal.returns-clause-verified

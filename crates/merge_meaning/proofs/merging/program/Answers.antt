@@ -13,8 +13,8 @@ returns c =
     c.in_ok-add_host-2.ensures
     ∙ ap (λ (gs : List GlobalValue). with_host (codes "getchar") gs) (c.in_ok-add_host.ensures
     ∙ ap (λ (gs : List GlobalValue). with_host (codes "putchar") gs)
-    (c.in_ok-rows.ensures.rows ∙ ap (λ table. merged_in table 0 c.args.modules.now) c.requires ∙ merged_kept c.args.modules.now)) in
+    (c.in_ok-rows.ensures ∙ c.in_ok-marked.ensures.rows ∙ ap (λ table. merged_in table 0 c.args.modules.now) c.requires ∙ merged_kept c.args.modules.now)) in
     record {
       merged = is;
-      runnable = subst (λ (gs : List GlobalValue). AreRunnable gs) (sym is) (merged_runs c.args.modules.now c.in_ok-rows.ensures.verified);
+      runnable = subst (λ (gs : List GlobalValue). AreRunnable gs) (sym is) (merged_runs c.args.modules.now c.in_ok-marked.ensures.verified);
     }
