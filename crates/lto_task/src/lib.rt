@@ -5,8 +5,8 @@
 //! lack ([`declaration_of`], `specs/Declarations`). What it hands on of a definition is a [`Piece`]: the name that it
 //! has in the linked module, the names that it refers to, and its text (`specs/Pieces`). So a linked module is joined
 //! without a look into any text, and no tree of a module lives longer than its compilation. The pieces of a module are
-//! its unit. Below stand `ir_tree`, `ir_print` for texts, `ir_summary` for what definitions refer to, and `itoa` and
-//! `memchr` for numbers and lines.
+//! its unit. Below stand `ir_tree`, `ir_flow` for the marks that go with values, `ir_print` for texts, `ir_summary` for
+//! what definitions refer to, and `itoa` and `memchr` for numbers and lines.
 //!
 //! **Promise.** A task has a text, which is the key of a cache ([`task_text`], `specs/Tasks`): tasks with one text have
 //! the same limit, the same names, and modules with the same text ([`tasks_with_one_text_agree`]). A unit has a text,

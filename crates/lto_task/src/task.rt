@@ -1,11 +1,13 @@
 //! All that a back end reads of one module of a link.
-use ir_tree::{GlobalValue, Rows, Text};
+use ir_flow::MarkedValue;
+use ir_tree::{Rows, Text};
 
-/// The definitions of a module of a task, and behind them declarations of what they refer to and lack.
+/// The definitions of a module of a task, and behind them declarations of what they refer to and lack. With each goes whether all
+/// its blocks are known to be reached: a task's text doesn't tell it, and what is made of the task is the same with it and without.
 #[derive(Drop)]
 pub struct TaskModule<'a> {
-    pub defined: Vec<&'a GlobalValue>,
-    pub declared: Rows<GlobalValue>,
+    pub defined: Vec<&'a MarkedValue>,
+    pub declared: Rows<MarkedValue>,
 }
 
 /// What a back end reads of a module, and nothing else of the link: the cache's key is its text.
