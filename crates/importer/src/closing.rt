@@ -10,17 +10,18 @@ use crate::names::{references_of, sort_names};
 use crate::outside::host_named;
 use crate::setting::Setting;
 use crate::table::noted;
+use ir_flow::MarkedValue;
 use ir_tree::{GlobalValue, Rows};
 use lto_task::{TaskModule, declaration_of};
 use std::alloc::{AllocError, Global};
 use std::collections::HashMap;
 
 /// Adds a declaration, if there is one.
-fn push_some(list: &mut Rows<GlobalValue>, value: Option<GlobalValue>) -> Result<(), AllocError>
+fn push_some(list: &mut Rows<MarkedValue>, value: Option<GlobalValue>) -> Result<(), AllocError>
     ensures { OnOk result (list.new ≡ list.old ++ option_list value) }
 {
     if let Some(global) = value {
-        list.push(global)?;
+        list.push(MarkedValue::of(global, false))?;
     }
     Ok(())
 }
@@ -32,7 +33,7 @@ impl<'a> Setting<'a> {
     {
         match self.value_named(name) {
             Some(value) => {
-                let declared = declaration_of(alloc, value)?;
+                let declared = declaration_of(alloc, value.value())?;
                 Ok(Some(declared))
             }
             None => host_named(alloc, name),
@@ -43,7 +44,7 @@ impl<'a> Setting<'a> {
     fn lacked_as(
         &self,
         alloc: Global,
-        own: &HashMap<&[u8], &GlobalValue>,
+        own: &HashMap<&[u8], &MarkedValue>,
         name: &[u8],
     ) -> Result<Option<GlobalValue>, AllocError>
         ensures { IfOk result (λ found. found ≡ lacked_as (joined self.now.parts.now) (value_in own.now) name.now) }
@@ -58,9 +59,9 @@ impl<'a> Setting<'a> {
     fn declarations(
         &self,
         alloc: Global,
-        own: &HashMap<&[u8], &GlobalValue>,
+        own: &HashMap<&[u8], &MarkedValue>,
         names: &[&[u8]],
-    ) -> Result<Rows<GlobalValue>, AllocError>
+    ) -> Result<Rows<MarkedValue>, AllocError>
         ensures { IfOk result (λ declared. declared ≡ filter_map (lacked_as (joined self.now.parts.now) (value_in own.now)) (texts names.now)) }
     {
         let mut declared = Rows::new(alloc);
@@ -75,7 +76,7 @@ impl<'a> Setting<'a> {
     pub(crate) fn module_of(
         &self,
         alloc: Global,
-        defined: Vec<&'a GlobalValue>,
+        defined: Vec<&'a MarkedValue>,
     ) -> Result<TaskModule<'a>, AllocError>
         ensures { IfOk result (λ m. IsModuleOf (joined self.now.parts.now) (values defined.entry.items) (globals_of m)) }
     {

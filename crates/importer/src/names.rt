@@ -8,8 +8,9 @@ ghost use Rattle.lto_task.specs.Pieces.{NamesRise};
 ghost use Rattle.merge_meaning.specs.ByName.{has};
 ghost use Rattle.importer.specs.Tables.{values};
 
+use ir_flow::MarkedValue;
 use ir_summary::references;
-use ir_tree::{GlobalValue, Rows, Text};
+use ir_tree::{Rows, Text};
 use std::alloc::{AllocError, Global};
 use std::collections::HashSet;
 
@@ -59,13 +60,13 @@ pub fn copies(alloc: Global, names: &[&[u8]]) -> Result<Rows<Text>, AllocError>
 /// All names to which these values refer, as often as they do.
 pub(crate) fn references_of<'a>(
     alloc: Global,
-    globals: &[&'a GlobalValue],
+    globals: &[&'a MarkedValue],
 ) -> Result<Vec<&'a [u8]>, AllocError>
     ensures { IfOk result (λ names. texts names.items ≡ flat_map global_names (values globals.now)) }
 {
     let mut names = Vec::new(alloc);
     for global in globals {
-        let more = references(alloc, global)?;
+        let more = references(alloc, global.value())?;
         names.extend_from_slice(&more)?;
     }
     Ok(names)

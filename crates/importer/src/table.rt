@@ -5,15 +5,16 @@ ghost use Rattle.ir_meaning.specs.Programs.{symbol_of};
 ghost use Rattle.importer.specs.Brought.{joined, value_named};
 ghost use Rattle.importer.specs.Tables.{value_in, values};
 
+use ir_flow::MarkedValue;
 use ir_meaning::symbol_of;
-use ir_tree::{GlobalValue, Rows};
+use ir_tree::Rows;
 use std::alloc::{AllocError, Global};
 use std::collections::HashMap;
 
 /// Adds these global values to those that are borrowed.
 pub fn push_all<'a>(
-    all: &mut Vec<&'a GlobalValue>,
-    globals: &'a [GlobalValue],
+    all: &mut Vec<&'a MarkedValue>,
+    globals: &'a [MarkedValue],
 ) -> Result<(), AllocError>
     ensures { OnOk result (values all.new.items ≡ values all.old.items ++ globals.entry.now) }
 {
@@ -26,8 +27,8 @@ pub fn push_all<'a>(
 /// The global values of all parts, in their order.
 fn all_of<'a>(
     alloc: Global,
-    parts: &'a [Rows<GlobalValue>],
-) -> Result<Vec<&'a GlobalValue>, AllocError>
+    parts: &'a [Rows<MarkedValue>],
+) -> Result<Vec<&'a MarkedValue>, AllocError>
     ensures { IfOk result (λ all. values all.items ≡ joined parts.entry.now) }
 {
     let mut all = Vec::new(alloc);
@@ -39,20 +40,20 @@ fn all_of<'a>(
 
 /// Puts a global value into the table, in the place of one that has its name.
 fn note<'a>(
-    table: &mut HashMap<&'a [u8], &'a GlobalValue>,
-    global: &'a GlobalValue,
+    table: &mut HashMap<&'a [u8], &'a MarkedValue>,
+    global: &'a MarkedValue,
 ) -> Result<(), AllocError>
     ensures { OnOk result ((name : List ℕ) → value_in table.new name ≡ if bytes_eq (symbol_of global.entry.now).name name then Some global.entry.now else value_in table.old name) }
 {
-    table.insert(symbol_of(global).name.as_slice(), global)?;
+    table.insert(symbol_of(global.value()).name.as_slice(), global)?;
     Ok(())
 }
 
 /// The table of these global values; of one name the first.
 pub(crate) fn noted<'a>(
     alloc: Global,
-    all: &[&'a GlobalValue],
-) -> Result<HashMap<&'a [u8], &'a GlobalValue>, AllocError>
+    all: &[&'a MarkedValue],
+) -> Result<HashMap<&'a [u8], &'a MarkedValue>, AllocError>
     ensures { IfOk result (λ table. (name : List ℕ) → value_in table name ≡ value_named (values all.now) name) }
 {
     let mut table = HashMap::new(alloc);
@@ -67,8 +68,8 @@ pub(crate) fn noted<'a>(
 /// The global values of all parts by their names; of one name the first.
 pub(crate) fn table_of<'a>(
     alloc: Global,
-    parts: &'a [Rows<GlobalValue>],
-) -> Result<HashMap<&'a [u8], &'a GlobalValue>, AllocError>
+    parts: &'a [Rows<MarkedValue>],
+) -> Result<HashMap<&'a [u8], &'a MarkedValue>, AllocError>
     ensures { IfOk result (λ table. (name : List ℕ) → value_in table name ≡ value_named (joined parts.entry.now) name) }
 {
     let all = all_of(alloc, parts)?;

@@ -14,8 +14,9 @@ use crate::finals::push_names;
 use crate::names::{borrowed, copies, set_of, sort_names};
 use crate::setting::{Setting, list_at, part_at};
 use crate::table::{push_all, table_of};
+use ir_flow::MarkedValue;
 use ir_meaning::symbol_of;
-use ir_tree::{GlobalValue, Rows, Symbol, Text};
+use ir_tree::{Rows, Symbol, Text};
 use lto_task::Task;
 use std::alloc::{AllocError, Global};
 use std::collections::HashSet;
@@ -38,26 +39,26 @@ fn push_shared<'a>(
 fn shared_names<'a>(
     alloc: Global,
     set: &HashSet<&[u8]>,
-    globals: &'a [GlobalValue],
+    globals: &'a [MarkedValue],
 ) -> Result<Vec<&'a [u8]>, AllocError>
     ensures { IfOk result (λ names. texts names.items ≡ filter (has set.now) (map name_of globals.entry.now)) }
 {
     let mut names = Vec::new(alloc);
     for global in globals {
-        push_shared(&mut names, set, symbol_of(global).name.as_slice())?;
+        push_shared(&mut names, set, symbol_of(global.value()).name.as_slice())?;
     }
     Ok(names)
 }
 
 /// Sorts values by name, in the order of bytes; those of one name stay as they stood.
-fn sort_values(list: &mut Vec<&GlobalValue>) -> Result<(), AllocError>
+fn sort_values(list: &mut Vec<&MarkedValue>) -> Result<(), AllocError>
     ensures { OnOk result (IsInOrder (values list.old.items) (values list.new.items)) }
 {
     list.sort_by(|a, b| {
-        symbol_of(a)
+        symbol_of(a.value())
             .name
             .as_slice()
-            .cmp(symbol_of(b).name.as_slice())
+            .cmp(symbol_of(b.value()).name.as_slice())
     })?;
     Ok(())
 }
@@ -67,7 +68,7 @@ impl<'a> Setting<'a> {
     fn exports_of(
         &self,
         alloc: Global,
-        part: &'a [GlobalValue],
+        part: &'a [MarkedValue],
     ) -> Result<Vec<&'a [u8]>, AllocError>
         ensures rise { IfOk result (λ names. NamesRise (texts names.items)) }
         ensures are { IfOk result (λ names. (name : List ℕ) → Contains (texts names.items) name ↔ (Contains self.now.exports.now name × Contains (map name_of part.entry.now) name)) }
@@ -91,7 +92,7 @@ impl<'a> Setting<'a> {
     }
 
     /// The values of the symbols of these numbers, by name.
-    fn imported(&self, alloc: Global, numbers: &[u32]) -> Result<Vec<&'a GlobalValue>, AllocError>
+    fn imported(&self, alloc: Global, numbers: &[u32]) -> Result<Vec<&'a MarkedValue>, AllocError>
         ensures { IfOk result (λ list. IsInOrder (brought (joined self.now.parts.now) self.now.symbols.now self.now.suffixes.now numbers.now) (values list.items)) }
     {
         let mut list = Vec::new(alloc);
@@ -137,7 +138,7 @@ impl<'a> Setting<'a> {
 /// The tasks of the modules, in command order, where these names are exported. The parts are those of all modules.
 pub fn tasks_of<'a>(
     alloc: Global,
-    parts: &'a [Rows<GlobalValue>],
+    parts: &'a [Rows<MarkedValue>],
     symbols: &'a [Symbol],
     suffixes: &'a [Text],
     imports: &'a [Vec<u32>],
