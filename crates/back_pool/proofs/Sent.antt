@@ -14,6 +14,7 @@ use Rattle.ir_tree.specs.contracts.module.GlobalValue as global
 use Rattle.ir_tree.specs.contracts.operand.Argument as argument
 use Rattle.ir_tree.specs.contracts.operand.Reg as reg
 use Rattle.ir_tree.specs.contracts.rows.Rows as rows
+use Rattle.ir_flow.specs.contracts.marked_value.MarkedValue as marked
 use Rattle.lto_task.specs.contracts.task.Task as task
 use Rattle.lto_task.specs.contracts.task.TaskModule as task_module
 
@@ -49,14 +50,17 @@ function_sync = search (block_sync, sendable, crosses) depth 60 fits 20000
 pub variable_sync : IsSync (variable.the_field).row
 variable_sync = search (sendable, crosses, shapes.crosses) depth 60 fits 20000
 
-pub global_sync : IsSync global.the_row
+pub global_sync : IsSync (global.the_field).row
 global_sync = search (variable_sync, function_sync, sendable, crosses) depth 60 fits 20000
 
-pub globals_sync : IsSync (rows.the_row global.the_row)
-globals_sync = search (global_sync, sendable, crosses) depth 60 fits 20000
+pub marked_sync : IsSync marked.the_row
+marked_sync = search (global_sync, sendable, crosses) depth 60 fits 20000
+
+pub marked_values_sync : IsSync (rows.the_row marked.the_row)
+marked_values_sync = search (marked_sync, sendable, crosses) depth 60 fits 20000
 
 pub task_module_sync : (κ : NamedLft) → IsSync (task_module.the_field κ).row
-task_module_sync κ = search (globals_sync, global_sync, sendable, crosses) depth 60 fits 20000
+task_module_sync κ = search (marked_values_sync, marked_sync, sendable, crosses) depth 60 fits 20000
 
 pub task_sync : (κ : NamedLft) → IsSync (task.the_row κ)
 task_sync κ = search (task_module_sync, sendable, crosses) depth 60 fits 20000
