@@ -8,6 +8,7 @@ ghost use Rattle.link_one.specs.Units.{IsLinkedPiece};
 
 use back_end::{Bodies, compile};
 use emit::Exported;
+use ir_flow::MarkedValue;
 use ir_tree::{Duplicate, GlobalValue};
 use lto_task::{Piece, piece_of};
 use std::alloc::{AllocError, Global};
@@ -16,19 +17,19 @@ use std::alloc::{AllocError, Global};
 fn linked_global(
     alloc: Global,
     bodies: &Bodies<'_>,
-    global: &GlobalValue,
+    global: &MarkedValue,
 ) -> Result<GlobalValue, AllocError>
     requires sound { GlobalSound global.now }
     requires bodies { AreSound (bodies_in bodies.now) }
     ensures { IfOk result (λ g. IsLinkedGlobal (bodies_in bodies.now) global.now g) }
 {
-    match global {
+    match global.value() {
         GlobalValue::Variable(variable) => {
             let variable = variable.duplicate(alloc)?;
             Ok(GlobalValue::Variable(variable))
         }
         GlobalValue::Function(function) => {
-            let function = compile(alloc, bodies, function)?;
+            let function = compile(alloc, bodies, function, global.is_reached())?;
             Ok(GlobalValue::Function(function))
         }
     }
@@ -39,7 +40,7 @@ pub(crate) fn linked_piece(
     alloc: Global,
     bodies: &Bodies<'_>,
     exported: &Exported<'_>,
-    global: &GlobalValue,
+    global: &MarkedValue,
 ) -> Result<Piece, AllocError>
     requires sound { GlobalSound global.now }
     requires bodies { AreSound (bodies_in bodies.now) }

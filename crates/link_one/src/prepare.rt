@@ -12,8 +12,9 @@ ghost use Rattle.link_one.specs.Refusing.{IsLeastTaken, IsUnlinked};
 use crate::naming::named;
 use crate::target::given_text;
 use combined_index::{Index, Live, promoted};
+use ir_flow::MarkedValue;
 use ir_print::print;
-use ir_tree::{GlobalValue, Module, Rows, TargetLine, Text, Verified};
+use ir_tree::{Module, Rows, TargetLine, Text, Verified};
 use lto_fault::Refusal;
 use merge_meaning::{LiveSymbols, parts};
 use std::alloc::{AllocError, Global};
@@ -31,7 +32,7 @@ pub(crate) struct Prepared {
     /// For each module its locals to which other modules refer.
     pub(crate) promoted: Vec<Vec<u32>>,
     /// For each module its live definitions, under final names.
-    pub(crate) parts: Vec<Rows<GlobalValue>>,
+    pub(crate) parts: Vec<Rows<MarkedValue>>,
     /// The target lines of the linked module.
     pub(crate) header: Text,
 }
@@ -40,7 +41,7 @@ pub(crate) struct Prepared {
 #[derive(Drop)]
 struct Contents {
     promoted: Vec<Vec<u32>>,
-    parts: Vec<Rows<GlobalValue>>,
+    parts: Vec<Rows<MarkedValue>>,
     header: Text,
 }
 
@@ -67,7 +68,7 @@ fn live_parts(
     modules: &[Verified],
     decided: &ThinLink<'_>,
     suffixes: &[Text],
-) -> Result<Vec<Rows<GlobalValue>>, AllocError>
+) -> Result<Vec<Rows<MarkedValue>>, AllocError>
     requires marks { length decided.now.live ≡ length decided.now.index.symbols }
     requires resolved { decided.now.resolution ≡ symbols modules.now }
     ensures { IfOk result (λ all. all.items ≡ parts modules.now decided.now.index.symbols decided.now.live suffixes.now) }

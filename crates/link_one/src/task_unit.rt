@@ -15,6 +15,7 @@ use crate::referable::{push_copies, push_shown};
 use back_end::Bodies;
 use emit::{Exported, strip};
 use importer::{copies, push_all};
+use ir_flow::MarkedValue;
 use ir_tree::{GlobalValue, Rows, Text};
 use lto_task::{Piece, Task, TaskModule};
 use std::alloc::{AllocError, Global};
@@ -29,11 +30,22 @@ fn is_defined(global: &GlobalValue) -> bool
 }
 
 /// Adds the definitions and the declarations of a module of a task.
-fn push_module<'a>(list: &mut Vec<&'a GlobalValue>, m: &'a TaskModule<'a>) -> Result<(), AllocError>
+fn push_module<'a>(list: &mut Vec<&'a MarkedValue>, m: &'a TaskModule<'a>) -> Result<(), AllocError>
     ensures { OnOk result (values list.new.items ≡ values list.old.items ++ globals_of m.entry.now) }
 {
     list.extend_from_slice(&m.defined)?;
     push_all(list, m.declared.as_slice())
+}
+
+/// These values without their marks.
+fn plain<'a>(alloc: Global, globals: &[&'a MarkedValue]) -> Result<Vec<&'a GlobalValue>, AllocError>
+    ensures { IfOk result (λ list. values list.items ≡ values globals.now) }
+{
+    let mut list = Vec::new(alloc);
+    for global in globals {
+        list.push(global.value())?;
+    }
+    Ok(list)
 }
 
 /// The bodies that may be inlined in a task's module: imported ones, and its own.
@@ -43,17 +55,18 @@ fn bodies_of<'a>(alloc: Global, task: &'a Task<'a>) -> Result<Bodies<'a>, AllocE
     let mut list = Vec::new(alloc);
     push_module(&mut list, &task.imported)?;
     push_module(&mut list, &task.own)?;
-    Bodies::of(alloc, &list, task.inline_limit)
+    let globals = plain(alloc, &list)?;
+    Bodies::of(alloc, &globals, task.inline_limit)
 }
 
 /// Adds a value, where it is a definition.
 fn push_defined<'a>(
-    list: &mut Vec<&'a GlobalValue>,
-    global: &'a GlobalValue,
+    list: &mut Vec<&'a MarkedValue>,
+    global: &'a MarkedValue,
 ) -> Result<(), AllocError>
     ensures { OnOk result (values list.new.items ≡ values list.old.items ++ (if is_defined global.entry.now then global.entry.now ∷ [] else [])) }
 {
-    if is_defined(global) {
+    if is_defined(global.value()) {
         list.push(global)?;
     }
     Ok(())
@@ -62,8 +75,8 @@ fn push_defined<'a>(
 /// Those of these values that are definitions.
 fn defined_among<'a>(
     alloc: Global,
-    globals: &[&'a GlobalValue],
-) -> Result<Vec<&'a GlobalValue>, AllocError>
+    globals: &[&'a MarkedValue],
+) -> Result<Vec<&'a MarkedValue>, AllocError>
     ensures { IfOk result (λ list. values list.items ≡ definitions (values globals.now)) }
 {
     let mut list = Vec::new(alloc);
@@ -74,7 +87,7 @@ fn defined_among<'a>(
 }
 
 /// The definitions of a module of a task.
-fn definitions<'a>(alloc: Global, m: &'a TaskModule<'a>) -> Result<Vec<&'a GlobalValue>, AllocError>
+fn definitions<'a>(alloc: Global, m: &'a TaskModule<'a>) -> Result<Vec<&'a MarkedValue>, AllocError>
     ensures { IfOk result (λ list. values list.items ≡ definitions (globals_of m.entry.now)) }
 {
     let mut all = Vec::new(alloc);
@@ -86,7 +99,7 @@ fn linked_pieces(
     alloc: Global,
     bodies: &Bodies<'_>,
     exported: &Exported<'_>,
-    globals: &[&GlobalValue],
+    globals: &[&MarkedValue],
 ) -> Result<Rows<Piece>, AllocError>
     requires sound { All GlobalSound (values globals.now) }
     requires bodies { AreSound (bodies_in bodies.now) }
@@ -103,7 +116,7 @@ fn linked_pieces(
 fn pieces_of(
     alloc: Global,
     task: &Task<'_>,
-    globals: &[&GlobalValue],
+    globals: &[&MarkedValue],
 ) -> Result<Rows<Piece>, AllocError>
     requires sound { All GlobalSound (values globals.now) }
     requires own { All GlobalSound (task_view task.now).own }
@@ -120,7 +133,7 @@ fn pieces_of(
 fn offers_of(
     alloc: Global,
     task: &Task<'_>,
-    globals: &[&GlobalValue],
+    globals: &[&MarkedValue],
 ) -> Result<Rows<Text>, AllocError>
     requires { values globals.now ≡ definitions (task_view task.now).own }
     ensures { IfOk result (λ names. names ≡ offered_by (task_view task.now)) }
@@ -143,7 +156,7 @@ fn sort_pieces(pieces: &mut Vec<Piece>) -> Result<(), AllocError>
 fn kept_pieces(
     alloc: Global,
     task: &Task<'_>,
-    globals: &[&GlobalValue],
+    globals: &[&MarkedValue],
 ) -> Result<Rows<Piece>, AllocError>
     requires defined { values globals.now ≡ definitions (task_view task.now).own }
     requires own { All GlobalSound (task_view task.now).own }
