@@ -1,5 +1,6 @@
 //! Rows of the tables: a module before a pass, and what the pass makes of its first function.
-ghost use Rattle.std.specs.Prelude.{◌≡◌, IfOk, IfSome, map};
+ghost use Rattle.std.specs.Prelude.{◌≡◌, IfOk, IfSome, map, true};
+ghost use Rattle.ir_tree.specs.Flow.{AllReached};
 ghost use Rattle.back_end.specs.Inlinable.{AreSound};
 ghost use Rattle.back_end.specs.Walking.{bodies_in};
 ghost use Rattle.ir_tree.specs.Rules.{Sound};
@@ -61,6 +62,21 @@ pub(crate) fn first(module: &Verified) -> Option<&Function>
     match module.module().globals.as_slice() {
         [GlobalValue::Function(f), ..] => Some(f),
         _ => None,
+    }
+}
+
+/// The function that a module begins with, and whether all its blocks are known to be reached.
+fn first_marked(module: &Verified) -> Option<(&Function, bool)>
+    ensures sound { IfSome result (λ f. Sound f.0.now) }
+    ensures reached { IfSome result (λ f. f.1 ≡ true → AllReached f.0.now) }
+{
+    let globals = module.module().globals.as_slice();
+    if globals.len() == 0 {
+        return None;
+    }
+    match &globals[0] {
+        GlobalValue::Variable(_) => None,
+        GlobalValue::Function(f) => Some((f, module.is_reached(0))),
     }
 }
 
@@ -143,8 +159,8 @@ fn walked(alloc: Global, module: &Verified, limit: u32) -> Result<Option<Functio
 /// The first function of a module as the back end makes it.
 fn compiled(alloc: Global, module: &Verified, limit: u32) -> Result<Option<Function>, AllocError> {
     let bodies = bodies(alloc, module, limit)?;
-    match first(module) {
-        Some(f) => Ok(Some(compile(alloc, &bodies, f)?)),
+    match first_marked(module) {
+        Some((f, reached)) => Ok(Some(compile(alloc, &bodies, f, reached)?)),
         None => Ok(None),
     }
 }
