@@ -8,7 +8,7 @@ import time
 HOME = os.path.dirname(os.path.dirname(os.path.abspath(__file__)))
 WORK = os.path.join(HOME, "bench", "work")
 LAUNCHER = os.path.join(HOME, "thinlto")
-BUILT = os.path.join(HOME, "crates", "thinlto_main", "out", "thinlto_main")
+BUILT = os.path.join(HOME, "crates", "thinlto", "out", "thinlto")
 SEED = 20261126
 MOST_BYTES = 2**24
 

@@ -4,7 +4,7 @@ import subprocess
 import sys
 
 HOME = os.path.dirname(os.path.dirname(os.path.abspath(__file__)))
-BUILT = os.path.join(HOME, "crates", "thinlto_main", "out", "thinlto_main")
+BUILT = os.path.join(HOME, "crates", "thinlto", "out", "thinlto")
 
 
 def linker():
