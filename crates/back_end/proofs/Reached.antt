@@ -2,20 +2,16 @@
 use Rattle.std.proofs.Common.{◌≡◌, ◌∙◌, ◌&&◌, ◌<◌, ◌≤◌, ℕ, Bool, true, false, not, List, [], ◌∷◌, ◌⊎◌, inl, inr, length, replicate, refl, ap, sym, subst, arith}
 use Rattle.std.proofs.lemmas.Bool.{cases_lt, false≢true}
 use Rattle.std.proofs.lemmas.List.{get_or-replicate, get_or_past, length-map, length-replicate}
-use Rattle.ir_tree.specs.Flow.{AllReached, Path, Reachable, edges}
+use Rattle.ir_tree.specs.Flow.{AllReached, Reachable}
 use Rattle.ir_tree.specs.declared.function.Function.{Function}
 use Rattle.lto_sets.specs.Sets.{contains}
 use Rattle.ir_flow.specs.OfFunction.{IsReach}
-use Rattle.ir_flow.proofs.Reaching.{edge-to}
+use Rattle.ir_flow.proofs.Reaching.{all_stay_reached, path-inside}
 use Rattle.slot_promote.specs.Promoted.{next_number, promoted_function}
 use Rattle.slot_promote.specs.Slots.{promoted_slots}
 use Rattle.slot_promote.proofs.Shapes.{edges_stay, numbers_stay}
 
 -- ---- as a set
-
-inside : (f : Function) (ps : List ℕ) (b : ℕ) → Path f ps b → b < length f.blocks
-inside f [] b path = path.1
-inside f (p ∷ ps) b path = edge-to f b p path.0
 
 module _ (f : Function) (n : ℕ) (many : n ≡ length f.blocks) (all : AllReached f) where
   member : (b : ℕ) → contains (replicate n true) b ≡ true → Reachable f b
@@ -26,7 +22,7 @@ module _ (f : Function) (n : ℕ) (many : n ≡ length f.blocks) (all : AllReach
       by (inr past) = absurd (false≢true (sym (get_or_past (replicate n true) b false (omega (arith, past, many, length-replicate n true))) ∙ h))
 
   full : IsReach f (replicate n true)
-  full = (length-replicate n true ∙ many, λ b. (member b, λ r. get_or-replicate n b true false (omega (arith, inside f r.0 b r.1, many))))
+  full = (length-replicate n true ∙ many, λ b. (member b, λ r. get_or-replicate n b true false (omega (arith, path-inside f r.0 b r.1, many))))
 
 -- all blocks are reached: the set of them all
 pub all_reach : (f : Function) (n : ℕ) (bits : List Bool) → n ≡ length f.blocks → AllReached f → bits ≡ replicate n true → IsReach f bits
@@ -34,18 +30,10 @@ all_reach f n bits many all is = subst (IsReach f) (sym is) (full f n many all)
 
 -- ---- of a function that is made of it
 
-module _ (f g : Function) (long : length g.blocks ≡ length f.blocks) (same : (b : ℕ) → edges g b ≡ edges f b) where
-  path_stays : (ps : List ℕ) (b : ℕ) → Path f ps b → Path g ps b
-  path_stays [] b path = (path.0, omega (arith, path.1, long))
-  path_stays (p ∷ ps) b path = (rw (same b) path.0, path_stays ps p path.1)
-
-  all_stays : AllReached f → AllReached g
-  all_stays all b lt = let r : Reachable f b = all b (omega (arith, lt, long)) in (r.0, path_stays r.0 b r.1)
-
 -- slots become values over the same edges
 pub promoted_reached : (f : Function) → AllReached f → AllReached (promoted_function f)
 promoted_reached f =
-    all_stays f (promoted_function f)
+    all_stay_reached f (promoted_function f)
     (sym (length-map (promoted_function f).blocks (λ b. b.number)) ∙ ap length (numbers_stay f (promoted_slots f) (next_number f)) ∙ length-map f.blocks (λ b. b.number))
     (edges_stay f (promoted_slots f) (next_number f))
 

@@ -1,6 +1,6 @@
 //! The live symbols of a link, or what it lacks.
 ghost use Rattle.std.specs.Prelude.{◌≡◌, length};
-ghost use Rattle.combined_index.specs.Liveness.{Decides, AreLive};
+ghost use Rattle.combined_index.specs.Liveness.{Decides};
 ghost use Rattle.combined_index.specs.LiveMarks.{AreReferred, ChecksDefined, ChecksExported};
 
 use crate::index::Index;

@@ -1,6 +1,6 @@
 //! The first module that refers to a symbol.
-ghost use Rattle.std.specs.Prelude.{◌≡◌, ◌<◌, All, length};
-ghost use Rattle.std.specs.List.{list_any, position_from};
+ghost use Rattle.std.specs.Prelude.{◌≡◌, ◌<◌, length};
+ghost use Rattle.std.specs.List.{position_from};
 ghost use Rattle.combined_index.specs.Combined.{AreWithin};
 ghost use Rattle.combined_index.specs.LiveMarks.{any_refers, refers};
 

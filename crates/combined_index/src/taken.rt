@@ -1,5 +1,5 @@
 //! The least name that two symbols have.
-ghost use Rattle.std.specs.Prelude.{◌≡◌, ◌∷◌, [], ◌++◌, Some, Option, List, ℕ, IfOk, OnOk, option_map};
+ghost use Rattle.std.specs.Prelude.{◌≡◌, ◌∷◌, [], ◌++◌, Some, Option, List, ℕ, IfOk};
 ghost use Rattle.combined_index.specs.Noted.{LeastTaken, Noted, lesser, text_of};
 ghost use Rattle.ir_tree.specs.NameOrder.{comes_before};
 

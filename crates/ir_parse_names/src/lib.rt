@@ -4,7 +4,7 @@
 //! `indexmap`, which keeps names in the order in which they are first seen. [`Types`], [`Globals`], [`Locals`] and
 //! [`Groups`] hold names, borrowed from the written tree. Type names are expanded within the limits ([`expanded`]),
 //! constant addresses folded to a symbol and an offset ([`address_offset`]). Trees are made in `ir_parse_values`. The
-//! definitions of stages over a whole module stand here too, for `ir_parse_stages`.
+//! definitions of stages over a whole module stand here too, for the crates above.
 //!
 //! **Promise.** A call gives what its definition says, the fault with its kind and line among it, unless memory runs
 //! out (`specs/Resolving`): [`expanded`] by `specs/Types`, [`Globals`] by `specs/Globals`, [`Locals`] by `specs/Locals`.
