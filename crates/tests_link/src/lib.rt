@@ -16,7 +16,7 @@
 //! **Cost.** A test takes what its passes and links take; long functions are written by a loop. The tests stand above
 //! the crates, in one, so that their proofs are not done twice and their statements are loaded once.
 //!
-//! **Not shown.** That a pass finds what no row has. Further links are rows of the program's own tests.
+//! **Not shown.** That a pass finds what no row has. Further links are rows of `tests_main`.
 #![tactic(auto)]
 
 #[cfg(test)]
