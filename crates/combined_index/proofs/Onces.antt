@@ -1,8 +1,6 @@
 -- Symbols that are noted one after another are those that come, each once.
 use Rattle.std.proofs.Common.{◌≡◌, ◌∙◌, ◌||◌, sym, ap, refl, Bool, true, false, not, cond, List, [], ◌∷◌, ◌++◌, filter, append-nil, append_assoc}
 use Rattle.std.proofs.lemmas.List.Elements.{filter-append}
-use Rattle.std.specs.Cmp.{IsEquivalence, and_equiv, on_equiv, nat_eq_equiv}
-use Rattle.std.specs.Cmp.Lexicographic.{nat_list_eq_equiv, options_equiv}
 use Rattle.std.specs.List.{list_any}
 use Rattle.ir_tree.specs.declared.operand.Symbol.{Symbol}
 use Rattle.combined_index.specs.Entries.{once, without}

@@ -1,13 +1,11 @@
 -- What the summaries of a link say, module by module, each name taken to its symbol.
-use Rattle.std.specs.Prelude.{ℕ, suc, Bool, true, false, not, ◌&&◌, ◌||◌, nat_eq, if◌then◌else◌, List, [], ◌∷◌, ◌++◌, map, filter, flat_map, Option, Some, None}
+use Rattle.std.specs.Prelude.{ℕ, suc, Bool, false, ◌&&◌, ◌||◌, nat_eq, if◌then◌else◌, List, [], ◌∷◌, ◌++◌, map, filter, flat_map, Option, Some, None}
 use Rattle.std.specs.List.{list_any}
-use Rattle.std.specs.Option.{option_eq}
 use Rattle.std.specs.Str.{bytes_eq}
 use Rattle.ir_tree.specs.declared.function.Linkage.{Linkage}
 use Rattle.ir_tree.specs.Linkages.{defines, is_local}
 use Rattle.ir_tree.specs.Once.{once_by, without_by}
 use Rattle.ir_tree.specs.Symbols.{symbol_eq}
-use Rattle.ir_tree.specs.declared.function.Linkage.TheVariants as linkage
 use Rattle.ir_tree.specs.declared.operand.Symbol.{Symbol}
 use Rattle.ir_summary.specs.declared.summary.Summary.{Summary}
 use Rattle.symbol_resolve.specs.Resolved.{Symbols, module_of}

@@ -35,6 +35,23 @@ fn modules_of<'a>(
     Ok(modules)
 }
 
+/// The index of the definitions that these summaries are of.
+fn index_of(
+    alloc: Global,
+    summaries: &[Vec<Summary>],
+    resolution: &Resolution,
+) -> Result<Index, AllocError>
+    ensures { IfOk result (λ index. IsCombined resolution.now (map (λ m. m.items) summaries.now) index) }
+{
+    let mut table = IndexSet::new(alloc);
+    let modules = modules_of(alloc, &mut table, resolution, summaries)?;
+    if table.len() > 0xFFFF_FFFF {
+        return Err(AllocError);
+    }
+    let symbols = symbols_of(alloc, table.as_slice())?;
+    Index::of(alloc, symbols, modules)
+}
+
 /// The combined index of the modules of a link: of each its summaries, by module number. The
 /// summaries and the resolution are those of one list of modules.
 ///
@@ -47,11 +64,5 @@ pub fn combine(
 ) -> Result<Index, AllocError>
     ensures { IfOk result (λ index. IsCombined resolution.now (map (λ m. m.items) summaries.items) index) }
 {
-    let mut table = IndexSet::new(alloc);
-    let modules = modules_of(alloc, &mut table, resolution, &summaries)?;
-    if table.len() > 0xFFFF_FFFF {
-        return Err(AllocError);
-    }
-    let symbols = symbols_of(alloc, table.as_slice())?;
-    Index::of(alloc, symbols, modules)
+    index_of(alloc, summaries.as_slice(), resolution)
 }

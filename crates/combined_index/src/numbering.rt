@@ -1,6 +1,7 @@
 //! Summaries become definitions: names become numbers of symbols.
-ghost use Rattle.std.specs.Prelude.{map, IfOk};
+ghost use Rattle.std.specs.Prelude.{filter, map, IfOk};
 ghost use Rattle.combined_index.specs.Entries.{entries, entry_of, symbol_of};
+ghost use Rattle.ir_tree.specs.Linkages.{defines};
 ghost use Rattle.combined_index.specs.Numbered.{NumbersEntries, NumbersEntry, NumbersSymbols, is_kept, symbols};
 
 use crate::definition::Definition;
@@ -56,6 +57,26 @@ fn definition_of<'a>(
     })
 }
 
+/// The definitions of a module with this scope.
+fn scoped_definitions<'a>(
+    alloc: Global,
+    table: &mut IndexSet<Key<'a>>,
+    scope: &Scope<'a>,
+    resolution: &Resolution,
+    summaries: &'a [Summary],
+) -> Result<Rows<Definition>, AllocError>
+    ensures { IfOk result (λ rows. NumbersEntries (symbols table.old.keys) (map (entry_of resolution.now scope.now.number (is_kept scope.now.own.keys)) (filter (λ s. defines s.linkage) summaries.entry.now)) (symbols table.new.keys) rows) }
+{
+    let mut rows = Rows::new(alloc);
+    for summary in summaries {
+        if summary.linkage.defines() {
+            let definition = definition_of(alloc, table, scope, resolution, summary)?;
+            rows.push(definition)?;
+        }
+    }
+    Ok(rows)
+}
+
 /// The definitions of a module.
 pub(crate) fn definitions_of<'a>(
     alloc: Global,
@@ -68,12 +89,5 @@ pub(crate) fn definitions_of<'a>(
 {
     let own = own_names(alloc, summaries)?;
     let scope = Scope { number, own };
-    let mut rows = Rows::new(alloc);
-    for summary in summaries {
-        if summary.linkage.defines() {
-            let definition = definition_of(alloc, table, &scope, resolution, summary)?;
-            rows.push(definition)?;
-        }
-    }
-    Ok(rows)
+    scoped_definitions(alloc, table, &scope, resolution, summaries)
 }

@@ -1,7 +1,7 @@
-use Rattle.std.proofs.Common.{◌≡◌, ◌∙◌, ◌+◌, ◌<◌, ◌++◌, ◌∷◌, [], ℕ, List, get_or, take, length, sym, ap, subst, arith}
+use Rattle.std.proofs.Common.{◌≡◌, ◌∙◌, ◌+◌, ◌<◌, ◌++◌, ◌∷◌, [], ℕ, List, get_or, take, take_all, length, sym, ap, subst, arith, rules}
 use Rattle.std.proofs.lemmas.List.{take_more}
 use Rattle.combined_index.specs.LiveMarks.{IsStarted}
-use Rattle.combined_index.proofs.Starting.{exported_inside, start-more, start-same}
+use Rattle.combined_index.proofs.Starting.{exported_inside, start-more, start-none, start-same}
 use Rattle.combined_index.proofs.reach.start.Goals as goal
 use Rattle.combined_index.proofs.reach.start.Goals.{in-Some+in_ok-reach, in_default}
 
@@ -29,3 +29,11 @@ loop-root-preserved c =
           (start-same c.args.index.now (take c.loop-root.root-index c.args.roots.now) c.as_slice.result.now c.loop-root.walk.reached c.loop-root.walk.waiting.items w.in_default.ensures
           c.loop-root.invariant))
     ]
+
+pub loop-root-init : goal.loop-root-init
+loop-root-init c = start-none c.args.index.now _ c.in_ok-walk.walk.reached c.in_ok-walk.walk.waiting.items (search rules) c.in_ok-walk.ensures.0 c.in_ok-walk.ensures.1
+
+pub returns : goal.returns
+returns c =
+    subst (λ (rs : List (List ℕ)). IsStarted c.args.index.now rs c.loop-root.walk.reached c.loop-root.walk.waiting.items) (take_all c.loop-root.root-index c.args.roots.now (omega arith))
+    c.loop-root.invariant

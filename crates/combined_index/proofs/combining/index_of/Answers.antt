@@ -1,11 +1,9 @@
-use Rattle.std.proofs.Common.{◌≡◌, ◌∙◌, ◌<◌, ◌^◌, List, ap, arith, length, map, subst, Err, IfOk, Ok, Result, Vec}
-use Rattle.std.specs.Global.{Global}
-use Rattle.ir_summary.specs.declared.summary.Summary.{Summary}
+use Rattle.std.proofs.Common.{◌≡◌, ◌∙◌, ◌<◌, ◌^◌, ap, arith, length, map, Err, IfOk, Ok, Result}
 use Rattle.combined_index.specs.Entries.{combined}
 use Rattle.combined_index.specs.Indexed.{IsCombined}
 use Rattle.combined_index.specs.Numbered.{NumbersModules, symbols}
 use Rattle.combined_index.proofs.Wholes.{is_combined, is_index}
-use Rattle.combined_index.proofs.combining.combine.Goals as goal
+use Rattle.combined_index.proofs.combining.index_of.Goals as goal
 
 pub of-requires : goal.of-requires
 of-requires c =
@@ -23,11 +21,10 @@ returns c =
     let keys = c.modules_of.new.table.keys in
     let few : length keys < 2 ^ 32 = omega (arith, c.len.ensures.len, c.if-len-gt4294967295.false) in
     let table = c.args.resolution.now in
-    let all = map (λ m. m.items) c.args.summaries.items in
+    let all = map (λ m. m.items) c.args.summaries.now in
     let start = c.new-table.result.keys in
     let modules = c.in_ok-modules.modules.items in
-    let numbered : NumbersModules (symbols start) (combined table all) (symbols keys) modules =
-    subst (λ (z : List (Vec Summary Global)). NumbersModules (symbols start) (combined table (map (λ m. m.items) z)) (symbols keys) modules) c.deref.ensures.value c.in_ok-modules.ensures in
+    let numbered : NumbersModules (symbols start) (combined table all) (symbols keys) modules = c.in_ok-modules.ensures in
     let named : c.in_ok-symbols.symbols.items ≡ symbols keys = c.in_ok-symbols.ensures ∙ ap symbols c.as_slice.ensures.keys in
     mapped c.of.result _ (IsCombined table all)
     (λ index same.

@@ -2,7 +2,7 @@ use Rattle.std.proofs.Common.{filter, map, take}
 use Rattle.combined_index.specs.Entries.{entry_of}
 use Rattle.ir_tree.specs.Linkages.{defines}
 use Rattle.combined_index.specs.Numbered.{NumbersEntries, is_kept, symbols}
-use Rattle.combined_index.proofs.numbering.definitions_of.Given as goal
+use Rattle.combined_index.proofs.numbering.scoped_definitions.Given as goal
 
 abbrev pub invariant-loop-summary : goal.invariant-loop-summary
 invariant-loop-summary l =
