@@ -7,7 +7,7 @@ use Rattle.ir_parse_operands.specs.declared.extents.Align.{Align}
 use Rattle.ir_parse_operands.specs.declared.extents.Align.TheVariants.{One, Two, Four, Eight}
 use Rattle.ir_parse_operands.specs.declared.extents.Extent.{Extent}
 use Rattle.ir_parse_operands.specs.declared.extents.Room.{Room}
-use Rattle.ir_parse_operands.specs.Extents.{wider, bytes, rounded, multiples, extent, extent_of, members_extent, placed, grown, padded, room_for, share, shared, between, behind, left_for, left, Fits, IsRoom}
+use Rattle.ir_parse_operands.specs.Extents.{wider, bytes, rounded, multiples, extent, extent_of, members_extent, placed, grown, room_for, share, shared, between, behind, left_for, left, Fits, IsRoom}
 use Rattle.ir_parse_parts.specs.Shapes.{Written, parts_of}
 
 less : (n m : ℕ) → nat_le n m ≡ true → n ≤ m
@@ -62,15 +62,6 @@ left_is packed room s Eight = refl
 pub grown_fits : (packed : Bool) (room : Room) (s e : Extent) → Fits (left packed room s) e → Fits room (grown packed s e)
 grown_fits packed room s e h =
     behind_reach e.align (wider s.align (placed packed e.align)) (room_for room (wider s.align (placed packed e.align))) (rounded (placed packed e.align) s.size) e.size (subst (λ (n : ℕ). e.size + bytes e.align 1 ≤ bytes e.align n) (left_is packed room s e.align) h)
-
-pub padded_fits : (room : Room) (s : Extent) → Fits room s → Fits room (padded s)
-padded_fits room s h = by_align s.align h
-  where
-    by_align : (a : Align) → s.size + bytes a 1 ≤ bytes a (room_for room a) → rounded a s.size + bytes a 1 ≤ bytes a (room_for room a)
-    by_align One d = d
-    by_align Two d = omega (arith, d)
-    by_align Four d = omega (arith, d)
-    by_align Eight d = omega (arith, d)
 
 -- ---- elements
 

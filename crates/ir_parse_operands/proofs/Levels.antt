@@ -6,7 +6,6 @@ use Rattle.ir_parse_parts.specs.declared.fault.Fault.{Fault}
 use Rattle.ir_tree.specs.declared.failure.Failure.{Failure}
 use Rattle.ir_tree.specs.declared.failure.Failure.TheVariants as errors
 use Rattle.ir_parse_parts.specs.Readers.{Reader, done, follow, ◌>>=◌, folded, Fails, Returns}
-use Rattle.ir_parse_parts.proofs.Composed.{reads_is}
 use Rattle.ir_parse_parts.proofs.Loops.{with_front}
 use Rattle.ir_parse_parts.proofs.Stars.{behind}
 
@@ -39,13 +38,6 @@ module _ {T A : Type 0} (one : Reader T A) (rest : Reader T (List A)) where
   pub turn_fails : (e : Failure Fault) (front : List A) (ts : List T) (total : Result (List A × List T) Fault) → Fails e (one ts) → with_front front (in_turn ts) ≡ total → Fails e total
   turn_fails errors.NoMemory front ts total h so_far = tt
   turn_fails (errors.Fault d) front ts total h so_far = sym so_far ∙ ap (λ (r : Result (A × List T) Fault). with_front front (follow r (λ b. rest >>= λ more. done (b ∷ more)))) h
-
--- those behind a first one, and what closes them
-pub then_closed : {T A : Type 0} (first : A) (r : Result (List A × List T) Fault) (close : Reader T (Unit {0})) (all : List A) (mid after : List T) → follow r (λ more. done (first ∷ more)) ≡ Ok (all, mid) → close mid ≡ Ok (tt, after) → follow r (λ more. close >>= λ _. done (first ∷ more)) ≡ Ok (all, after)
-then_closed {T} {A} first (Ok x) close all mid after e h =
-    let d = reads_is (first ∷ x.0) all x.1 mid e in
-    ap (λ (us : List T). follow (close us) (λ _. done (first ∷ x.0))) d.1 ∙ ap (λ (r : Result (Unit {0} × List T) Fault). follow r (λ _. done (first ∷ x.0))) h ∙ ap (λ (items : List A). Ok (items, after)) d.0
-then_closed first (Err d) close all mid after e h = absurd cc
 
 -- the same reading, written otherwise
 pub gives_as : {X Y : Type 0} (view : X → Y) (x : Result X (Failure Fault)) (r r' : Result Y Fault) → r ≡ r' → Returns view x r → Returns view x r'

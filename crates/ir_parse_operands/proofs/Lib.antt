@@ -5,6 +5,7 @@ pub mod Barred
 pub mod ExtentLaws
 pub mod LeafRules
 pub mod Levels
+mod Members
 pub mod ShapeRules
 pub mod Subforms
 pub mod ValueRules

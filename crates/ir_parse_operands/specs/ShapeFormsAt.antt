@@ -1,5 +1,5 @@
 -- What the readers of shapes give.
-use Rattle.std.specs.Prelude.{ℕ, zero, suc, Bool, true, false, List, [], ◌∷◌}
+use Rattle.std.specs.Prelude.{ℕ, zero, suc, Bool, true, false, List, [], ◌∷◌, if◌then◌else◌}
 use Rattle.ir_lex.specs.declared.token_kind.TokenKind.TheVariants as kinds
 use Rattle.ir_lex.specs.TokenKinds.{number}
 use Rattle.ir_lex.specs.Tok.{Tok}
@@ -12,6 +12,8 @@ use Rattle.ir_parse_parts.specs.Ahead.{BRACKETS}
 use Rattle.ir_parse_parts.specs.Classes.{tokens, refusal, the_at, one_of_at}
 use Rattle.ir_parse_operands.specs.declared.extents.Extent.{Extent}
 use Rattle.ir_parse_operands.specs.declared.extents.Room.{Room}
+use Rattle.ir_parse_operands.specs.declared.shapes.Head.{Head}
+use Rattle.ir_parse_operands.specs.declared.shapes.Head.TheVariants.{Array, Structure}
 use Rattle.ir_parse_parts.specs.declared.shape.Typed.{Typed}
 use Rattle.ir_parse_operands.specs.Extents.{extent_of, grown, left, no_bytes, shared, whole}
 use Rattle.ir_parse_parts.specs.MetadataAt.{COMMA}
@@ -73,6 +75,21 @@ more_members_at packed part first = do
   _ ← the_at kinds.CloseBrace
   done (first ∷ more)
 
+-- a member behind others, and those behind it
+abbrev pub members_on_at : Bool → (Extent → Reader Tok Typed) → Extent → Reader Tok (List Written)
+members_on_at packed part s = do
+  p ← part s
+  more ← chain_at anywhere begins (further_at packed part) (grown packed s (extent_of p.shape))
+  done (p.shape ∷ more)
+
+-- a comma, if one comes
+abbrev pub comma_at : Reader Tok Bool
+comma_at = pick (among tokens COMMA)
+    (do
+      _ ← the_at kinds.Comma
+      done true)
+    (done false)
+
 unfoldable pub members_at : Bool → (Extent → Reader Tok Typed) → Reader Tok (List Written)
 members_at packed part = pick (among tokens CLOSE_BRACE)
     (do
@@ -81,6 +98,10 @@ members_at packed part = pick (among tokens CLOSE_BRACE)
     (do
       first ← part no_bytes
       more_members_at packed part first.shape)
+
+-- members, up to the brace behind them
+unfoldable pub inner_at : Bool → (Extent → Reader Tok Typed) → Reader Tok (List Written)
+inner_at packed part = pick (among tokens CLOSE_BRACE) (done []) (members_on_at packed part no_bytes)
 
 unfoldable pub structure_at : (Extent → Reader Tok Typed) → Reader Tok Typed
 structure_at part = do
@@ -109,6 +130,37 @@ unfoldable pub packed_at : (Extent → Reader Tok Typed) → Reader Tok Typed
 packed_at part = do
   line ← one_of_at OPEN_ANGLE line_of
   packed_behind_at part line
+
+-- [ N x, { or < {
+unfoldable pub bracketed_at : Reader Tok Head
+bracketed_at = pick (among tokens OPEN_BRACKET)
+    (do
+      h ← array_head_at
+      done (Array h.0 h.1))
+    (pick (among tokens OPEN_BRACE)
+    (do
+      line ← one_of_at OPEN_BRACE line_of
+      done (Structure false line))
+    (do
+      line ← packed_head_at
+      done (Structure true line)))
+
+-- the head of an array or a structure, none of which may begin where no level is left
+abbrev pub head_at : ℕ → Reader Tok Head
+head_at zero = fault_at Limit
+head_at (suc depth) = bracketed_at
+
+-- } or } >
+unfoldable pub structure_end_at : Bool → Reader Tok (Unit {0})
+structure_end_at packed = do
+  _ ← the_at kinds.CloseBrace
+  if packed then the_at kinds.CloseAngle else done tt
+
+-- the end of a structure, behind its members
+abbrev pub closed_structure_at : Bool → ℕ → List Written → Reader Tok Typed
+closed_structure_at packed line parts = do
+  _ ← structure_end_at packed
+  done (typed (structure packed (parts_of parts)) line)
 
 unfoldable pub shape_over_at : (ℕ → Reader Tok Typed) → (Bool → Extent → Reader Tok Typed) → Reader Tok Typed → Reader Tok Typed
 shape_over_at of part innermost = pick (among tokens OPEN_BRACKET) (array_at of) (pick (among tokens OPEN_BRACE) (structure_at (part false)) (pick (among tokens OPEN_ANGLE) (packed_at (part true)) innermost))

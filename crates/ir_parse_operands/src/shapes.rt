@@ -2,18 +2,18 @@
 //! may nest and how large it may be is handed down to its parts, so the first token that passes a
 //! limit is refused.
 
-ghost use Rattle.std.specs.Prelude.{◌≡◌, ◌*◌, ◌≤◌, [], ◌∷◌, IfOk, true, false};
+ghost use Rattle.std.specs.Prelude.{◌≡◌, ◌*◌, ◌≤◌, [], ◌∷◌, ◌++◌, IfOk};
 ghost use Rattle.ir_lex.specs.TokenKinds.{number};
 ghost use Rattle.ir_lex.specs.Tok.{tok};
 ghost use Rattle.ir_parse_parts.specs.Readers.{Returns, view_result};
 ghost use Rattle.ir_parse_parts.specs.Rules.{is_valued};
 ghost use Rattle.ir_parse_parts.specs.Classes.{tokens, refusal, one_of_at};
 ghost use Rattle.ir_parse_operands.specs.declared.extents.Room.{Room};
-ghost use Rattle.ir_parse_operands.specs.Extents.{Fits, IsRoom, extent, extent_of, grown, left, members_extent, no_bytes, padded, scalar_extent, shared, whole};
+ghost use Rattle.ir_parse_operands.specs.Extents.{Fits, IsRoom, extent, extent_of, grown, left, members_extent, no_bytes, scalar_extent, whole};
 ghost use Rattle.ir_parse_parts.specs.Literals.{IsWidth};
-ghost use Rattle.ir_parse_operands.specs.ShapeForms.{angle_refusal, line_of, typed, scalar_align, scalar_typed, leaf_means, counted, count_of, NUMBER};
-ghost use Rattle.ir_parse_operands.specs.ShapeFormsAt.{array_at, array_head_at, closed_array_at, brace_behind_angle_at, count_at, further_at, innermost_at, leaf_at, members_at, memory_shape_at, more_members_at, packed_at, packed_head_at, shape_at, shape_over_at, structure_at};
-ghost use Rattle.ir_parse_parts.specs.Shapes.{array, parts_of, structure};
+ghost use Rattle.ir_parse_operands.specs.ShapeForms.{angle_refusal, line_of, scalar_align, scalar_typed, leaf_means, counted, count_of, NUMBER};
+ghost use Rattle.ir_parse_operands.specs.ShapeFormsAt.{array_head_at, bracketed_at, closed_array_at, closed_structure_at, comma_at, brace_behind_angle_at, count_at, head_at, inner_at, leaf_at, memory_shape_at, packed_head_at, shape_at, structure_end_at};
+ghost use Rattle.ir_parse_parts.specs.Shapes.{parts_of};
 
 use crate::extents::{Align, Extent, Room};
 use ir_lex::{Token, TokenKind};
@@ -109,24 +109,6 @@ pub fn leaf_at(alloc: Global, room: Room, tokens: &mut Tokens) -> Result<Measure
             Ok(x) => Ok(x),
             Err(kind) => Err(ReaderError::Fault(Fault { left, kind })),
         },
-    }
-}
-
-/// Takes a scalar or a type name where no array and no structure may begin.
-#[tactic(auto, unfolding(crate::specs::ShapeFormsAt::innermost_at))]
-fn innermost_at(alloc: Global, room: Room, tokens: &mut Tokens) -> Result<Measured, ReaderError>
-    requires { IsRoom room }
-    ensures exact { Returns (λ x. (x.typed, tokens.new)) result (innermost_at room tokens.old) }
-    ensures measured { IfOk result (λ x. x.extent ≡ extent_of x.typed.shape) }
-    ensures fits { IfOk result (λ x. Fits room x.extent) }
-{
-    if tokens.comes_bracket() {
-        Err(ReaderError::Fault(Fault {
-            left: tokens.left(),
-            kind: TokenFault::Limit,
-        }))
-    } else {
-        leaf_at(alloc, room, tokens)
     }
 }
 
@@ -234,17 +216,16 @@ pub fn brace_behind_angle_at(tokens: &mut Tokens) -> Result<(), ReaderError>
     }
 }
 
+/// What an array or a structure begins with, and the line of its first token.
+enum Head {
+    Array { line: u32, count: u64 },
+    Structure { packed: bool, line: u32 },
+}
+
 /// The members of a structure, and their extent without the padding behind them.
 #[derive(Drop)]
 struct Members {
     shapes: Vec<WrittenShape>,
-    extent: Extent,
-}
-
-/// A member of a structure, and the extent of the members up to it.
-#[derive(Drop)]
-struct Member {
-    shape: WrittenShape,
     extent: Extent,
 }
 
@@ -282,21 +263,40 @@ fn closed_array_at(
     })
 }
 
-/// The structure of these members.
-fn structure_of(packed: bool, line: u32, members: Members) -> Measured
+/// Reads what stands behind the members of a structure.
+#[tactic(auto, unfolding(crate::specs::ShapeFormsAt::structure_end_at))]
+fn structure_end_at(packed: bool, tokens: &mut Tokens) -> Result<(), ReaderError>
+    ensures { Returns (λ x. (tt, tokens.new)) result (structure_end_at packed tokens.old) }
+{
+    expect(TokenKind::CloseBrace, tokens)?;
+    if packed {
+        expect(TokenKind::CloseAngle, tokens)
+    } else {
+        Ok(())
+    }
+}
+
+/// Reads what stands behind the members of a structure, and makes the structure of them.
+fn closed_structure_at(
+    packed: bool,
+    line: u32,
+    members: Members,
+    tokens: &mut Tokens,
+) -> Result<Measured, ReaderError>
     requires size { members.extent.size ≤ 2147483648 }
     requires measured { members.extent ≡ members_extent packed no_bytes (parts_of members.shapes.items) }
-    ensures exact { result.typed ≡ typed (structure packed (parts_of members.shapes.items)) line }
-    ensures measured { result.extent ≡ extent_of result.typed.shape }
-    ensures extent { result.extent ≡ padded members.extent }
+    ensures exact { Returns (λ x. (x.typed, tokens.new)) result (closed_structure_at packed line members.shapes.items tokens.old) }
+    ensures measured { IfOk result (λ x. x.extent ≡ extent_of x.typed.shape) }
+    ensures fits { (room : Room) → Fits room members.extent → IfOk result (λ x. Fits room x.extent) }
 {
-    Measured {
+    structure_end_at(packed, tokens)?;
+    Ok(Measured {
         typed: Typed {
             shape: WrittenShape::structure(packed, members.shapes),
             line,
         },
         extent: members.extent.padded(),
-    }
+    })
 }
 
 /// Reads `< {`: the line of the first.
@@ -309,84 +309,83 @@ fn packed_head_at(tokens: &mut Tokens) -> Result<u32, ReaderError>
     Ok(line)
 }
 
-/// Reads `[ N x shape ]`, the elements of at most so many levels.
-#[cycle(shapes)]
-#[tactic(auto, using(crate::proofs::Heads::array_is, crate::proofs::ExtentLaws::elements_fit))]
-fn array_at(
-    alloc: Global,
-    depth: u8,
-    room: Room,
-    tokens: &mut Tokens,
-) -> Result<Measured, ReaderError>
-    requires { IsRoom room }
-    ensures exact { Returns (λ x. (x.typed, tokens.new)) result (array_at (λ n. shape_at depth (shared n room)) tokens.old) }
-    ensures measured { IfOk result (λ x. x.extent ≡ extent_of x.typed.shape) }
-    ensures fits { IfOk result (λ x. Fits room x.extent) }
+/// Reads what an array or a structure begins with: `[ N x`, `{` or `< {`.
+#[tactic(auto, unfolding(crate::specs::ShapeFormsAt::bracketed_at))]
+fn bracketed_at(tokens: &mut Tokens) -> Result<Head, ReaderError>
+    ensures { Returns (λ x. (x, tokens.new)) result (bracketed_at tokens.old) }
 {
-    let (line, count) = array_head_at(tokens)?;
-    let element = shape_at(alloc, depth, room.shared(count), tokens)?;
-    closed_array_at(alloc, count, line, element, tokens)
+    if tokens.comes(TokenKind::OpenBracket) {
+        let (line, count) = array_head_at(tokens)?;
+        Ok(Head::Array { line, count })
+    } else if tokens.comes(TokenKind::OpenBrace) {
+        let line = line_at(TokenKind::OpenBrace, tokens)?;
+        Ok(Head::Structure {
+            packed: false,
+            line,
+        })
+    } else {
+        let line = packed_head_at(tokens)?;
+        Ok(Head::Structure { packed: true, line })
+    }
 }
 
-/// Reads a comma and a member of a structure behind others.
-#[cycle(shapes)]
-#[tactic(auto, unfolding(crate::specs::ShapeFormsAt::further_at), using(crate::proofs::ExtentLaws::grown_fits, crate::proofs::ExtentLaws::fits_most))]
-fn member_at(
-    alloc: Global,
-    packed: bool,
-    depth: u8,
-    room: Room,
-    before: Extent,
-    tokens: &mut Tokens,
-) -> Result<Member, ReaderError>
-    requires room { IsRoom room }
-    requires before { Fits room before }
-    ensures exact { Returns (λ x. ((x.shape, x.extent), tokens.new)) result (further_at packed (λ s. shape_at depth (left packed room s)) before tokens.old) }
-    ensures measured { IfOk result (λ x. x.extent ≡ grown packed before (extent_of x.shape)) }
-    ensures fits { IfOk result (λ x. Fits room x.extent) }
+/// Reads what an array or a structure of at most so many levels begins with.
+fn head_at(depth: u8, tokens: &mut Tokens) -> Result<Head, ReaderError>
+    ensures exact { Returns (λ x. (x, tokens.new)) result (head_at depth tokens.old) }
+    ensures levels { IfOk result (λ x. 1 ≤ depth) }
 {
-    expect(TokenKind::Comma, tokens)?;
-    let member = shape_at(alloc, depth, room.left(packed, before), tokens)?;
-    Ok(Member {
-        shape: member.typed.shape,
-        extent: before.grown(packed, member.extent),
+    if depth == 0 {
+        Err(ReaderError::Fault(Fault {
+            left: tokens.left(),
+            kind: TokenFault::Limit,
+        }))
+    } else {
+        bracketed_at(tokens)
+    }
+}
+
+/// Takes a comma, if one comes; the answer is whether it did.
+#[tactic(auto, unfolding(ir_parse_parts::specs::Rules::is_class))]
+fn comma_at(tokens: &mut Tokens) -> bool
+    ensures { comma_at tokens.old ≡ Ok (result, tokens.new) }
+{
+    let comes = tokens.comes(TokenKind::Comma);
+    if comes {
+        tokens.take();
+    }
+    comes
+}
+
+/// No members.
+fn no_members(alloc: Global) -> Members
+    ensures shapes { result.shapes.items ≡ [] }
+    ensures extent { result.extent ≡ no_bytes }
+{
+    Members {
+        shapes: Vec::new(alloc),
+        extent: Extent::no_bytes(),
+    }
+}
+
+/// These members, and one more behind them.
+fn with_member(packed: bool, members: Members, member: Measured) -> Result<Members, AllocError>
+    requires before { members.extent.size ≤ 2147483648 }
+    requires more { member.extent.size ≤ 2147483648 }
+    requires measured { member.extent ≡ extent_of member.typed.shape }
+    ensures shapes { IfOk result (λ x. x.shapes.items ≡ members.shapes.items ++ member.typed.shape ∷ []) }
+    ensures extent { IfOk result (λ x. x.extent ≡ grown packed members.extent (extent_of member.typed.shape)) }
+{
+    let mut shapes = members.shapes;
+    shapes.push(member.typed.shape)?;
+    Ok(Members {
+        shapes,
+        extent: members.extent.grown(packed, member.extent),
     })
 }
 
-/// Reads the members behind the first, and the brace behind them.
+/// Reads the members of a structure, of at most so many levels, up to what stands behind them.
 #[cycle(shapes)]
-#[tactic(auto, unfolding(crate::specs::ShapeFormsAt::more_members_at), using(crate::proofs::ExtentLaws::grown_fits, crate::proofs::ExtentLaws::fits_most))]
-fn more_members_at(
-    alloc: Global,
-    packed: bool,
-    depth: u8,
-    room: Room,
-    first: Member,
-    tokens: &mut Tokens,
-) -> Result<Members, ReaderError>
-    requires room { IsRoom room }
-    requires measured { first.extent ≡ grown packed no_bytes (extent_of first.shape) }
-    requires fits { Fits room first.extent }
-    ensures exact { Returns (λ x. (x.shapes.items, tokens.new)) result (more_members_at packed (λ s. shape_at depth (left packed room s)) first.shape tokens.old) }
-    ensures measured { IfOk result (λ x. x.extent ≡ members_extent packed no_bytes (parts_of x.shapes.items)) }
-    ensures fits { IfOk result (λ x. Fits room x.extent) }
-{
-    let mut extent = first.extent;
-    let mut shapes = Vec::new(alloc);
-    shapes.push(first.shape)?;
-    'each: while tokens.comes(TokenKind::Comma) {
-        let member = member_at(alloc, packed, depth, room, extent, tokens)?;
-        extent = member.extent;
-        shapes.push(member.shape)?;
-    }
-    expect(TokenKind::CloseBrace, tokens)?;
-    Ok(Members { shapes, extent })
-}
-
-/// Reads the members of a structure, and the brace behind them.
-#[cycle(shapes)]
-#[tactic(auto, unfolding(crate::specs::ShapeFormsAt::members_at), using(crate::proofs::ExtentLaws::grown_fits, crate::proofs::ExtentLaws::fits_most))]
-fn members_at(
+fn inner_at(
     alloc: Global,
     packed: bool,
     depth: u8,
@@ -394,88 +393,18 @@ fn members_at(
     tokens: &mut Tokens,
 ) -> Result<Members, ReaderError>
     requires { IsRoom room }
-    ensures exact { Returns (λ x. (x.shapes.items, tokens.new)) result (members_at packed (λ s. shape_at depth (left packed room s)) tokens.old) }
+    ensures exact { Returns (λ x. (x.shapes.items, tokens.new)) result (inner_at packed (λ s. shape_at depth (left packed room s)) tokens.old) }
     ensures measured { IfOk result (λ x. x.extent ≡ members_extent packed no_bytes (parts_of x.shapes.items)) }
     ensures fits { IfOk result (λ x. Fits room x.extent) }
 {
-    let none = Extent::no_bytes();
-    if tokens.comes(TokenKind::CloseBrace) {
-        expect(TokenKind::CloseBrace, tokens)?;
-        return Ok(Members {
-            shapes: Vec::new(alloc),
-            extent: none,
-        });
+    let mut members = no_members(alloc);
+    let mut more = !tokens.comes(TokenKind::CloseBrace);
+    'each: while more {
+        let member = shape_at(alloc, depth, room.left(packed, members.extent), tokens)?;
+        members = with_member(packed, members, member)?;
+        more = comma_at(tokens);
     }
-    let first = shape_at(alloc, depth, room.left(packed, none), tokens)?;
-    let first = Member {
-        shape: first.typed.shape,
-        extent: none.grown(packed, first.extent),
-    };
-    more_members_at(alloc, packed, depth, room, first, tokens)
-}
-
-/// Reads `{ .. }`, the members of at most so many levels.
-#[cycle(shapes)]
-#[tactic(auto, unfolding(crate::specs::ShapeFormsAt::structure_at))]
-fn structure_at(
-    alloc: Global,
-    depth: u8,
-    room: Room,
-    tokens: &mut Tokens,
-) -> Result<Measured, ReaderError>
-    requires { IsRoom room }
-    ensures exact { Returns (λ x. (x.typed, tokens.new)) result (structure_at (λ s. shape_at depth (left false room s)) tokens.old) }
-    ensures measured { IfOk result (λ x. x.extent ≡ extent_of x.typed.shape) }
-    ensures fits { IfOk result (λ x. Fits room x.extent) }
-{
-    let line = line_at(TokenKind::OpenBrace, tokens)?;
-    let members = members_at(alloc, false, depth, room, tokens)?;
-    Ok(structure_of(false, line, members))
-}
-
-/// Reads `< { .. } >`, the members of at most so many levels.
-#[cycle(shapes)]
-#[tactic(auto, using(crate::proofs::Heads::packed_is))]
-fn packed_at(
-    alloc: Global,
-    depth: u8,
-    room: Room,
-    tokens: &mut Tokens,
-) -> Result<Measured, ReaderError>
-    requires { IsRoom room }
-    ensures exact { Returns (λ x. (x.typed, tokens.new)) result (packed_at (λ s. shape_at depth (left true room s)) tokens.old) }
-    ensures measured { IfOk result (λ x. x.extent ≡ extent_of x.typed.shape) }
-    ensures fits { IfOk result (λ x. Fits room x.extent) }
-{
-    let line = packed_head_at(tokens)?;
-    let members = members_at(alloc, true, depth, room, tokens)?;
-    expect(TokenKind::CloseAngle, tokens)?;
-    Ok(structure_of(true, line, members))
-}
-
-/// Reads a shape whose parts have at most so many levels.
-#[cycle(shapes)]
-#[tactic(auto, unfolding(crate::specs::ShapeFormsAt::shape_over_at))]
-fn outer_at(
-    alloc: Global,
-    depth: u8,
-    room: Room,
-    tokens: &mut Tokens,
-) -> Result<Measured, ReaderError>
-    requires { IsRoom room }
-    ensures exact { Returns (λ x. (x.typed, tokens.new)) result (shape_over_at (λ n. shape_at depth (shared n room)) (λ packed s. shape_at depth (left packed room s)) (leaf_at room) tokens.old) }
-    ensures measured { IfOk result (λ x. x.extent ≡ extent_of x.typed.shape) }
-    ensures fits { IfOk result (λ x. Fits room x.extent) }
-{
-    if tokens.comes(TokenKind::OpenBracket) {
-        array_at(alloc, depth, room, tokens)
-    } else if tokens.comes(TokenKind::OpenBrace) {
-        structure_at(alloc, depth, room, tokens)
-    } else if tokens.comes(TokenKind::OpenAngle) {
-        packed_at(alloc, depth, room, tokens)
-    } else {
-        leaf_at(alloc, room, tokens)
-    }
+    Ok(members)
 }
 
 /// Reads a shape of at most so many levels.
@@ -491,10 +420,18 @@ fn shape_at(
     ensures measured { IfOk result (λ x. x.extent ≡ extent_of x.typed.shape) }
     ensures fits { IfOk result (λ x. Fits room x.extent) }
 {
-    if depth == 0 {
-        innermost_at(alloc, room, tokens)
-    } else {
-        outer_at(alloc, depth - 1, room, tokens)
+    if !tokens.comes_bracket() {
+        return leaf_at(alloc, room, tokens);
+    }
+    match head_at(depth, tokens)? {
+        Head::Array { line, count } => {
+            let element = shape_at(alloc, depth - 1, room.shared(count), tokens)?;
+            closed_array_at(alloc, count, line, element, tokens)
+        }
+        Head::Structure { packed, line } => {
+            let members = inner_at(alloc, packed, depth - 1, room, tokens)?;
+            closed_structure_at(packed, line, members, tokens)
+        }
     }
 }
 
