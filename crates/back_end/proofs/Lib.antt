@@ -4,11 +4,11 @@ mod Finding
 mod GoingOn
 pub mod Interface
 mod Keeping
+mod Known
 mod Naming
 mod NoneTaken
 pub mod Offered
 pub mod Once
-mod Reached
 mod Ruling
 mod Table
 pub mod Turning

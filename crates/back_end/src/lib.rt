@@ -17,8 +17,9 @@
 //! function only that is made of each sound one ([`made_is_one`]).
 //!
 //! **Cost.** That of the passes; a walk goes over the function once, and costs what the function and the bodies that it
-//! takes are long. No walk or turn is made behind one that changed nothing. Blocks that are reached are not looked for
-//! in the first turn where the caller knows that all are and nothing was inlined.
+//! takes are long. No walk or turn is made behind one that changed nothing. A function's control flow is handed from pass
+//! to pass: the caller may know it, and it is found again once a turn where it isn't known, and behind decided branches
+//! and blocks that went.
 //!
 //! **Not shown.** That the result is faster or shorter; that memory is found.
 #![tactic(auto)]

@@ -1,10 +1,9 @@
 //! The order of the passes.
-ghost use Rattle.std.specs.Prelude.{◌≡◌, ◌&&◌, ◌||◌, false, not, true, IfOk};
-ghost use Rattle.ir_tree.specs.Flow.{AllReached};
+ghost use Rattle.std.specs.Prelude.{◌≡◌, ◌||◌, false, IfOk, IfSome, Some};
 ghost use Rattle.ir_tree.specs.Rules.{Sound};
 ghost use Rattle.ir_tree.specs.declared.function.Function.{Function};
 ghost use Rattle.ir_edit.specs.Numbered.{in_text_order};
-ghost use Rattle.ir_flow.specs.OfFunction.{IsReach};
+ghost use Rattle.ir_flow.specs.OfFunction.{IsFlowOf, IsGraphOf};
 ghost use Rattle.block_trim.specs.Merged.{IsMergeOf};
 ghost use Rattle.block_trim.specs.Trimmed.{IsTrimOf};
 ghost use Rattle.branch_simplify.specs.Simplified.{simplified};
@@ -24,9 +23,8 @@ use branch_simplify::into_simplified;
 use dead_code::into_needed;
 use ir_edit::renumber;
 use ir_facts::into_applied;
-use ir_flow::reachable;
+use ir_flow::{Edges, Flow, preds};
 use ir_tree::{Duplicate, Function};
-use lto_sets::Bits;
 use slot_promote::into_promoted;
 use std::alloc::{AllocError, Global};
 
@@ -40,99 +38,113 @@ fn either(first: bool, second: bool) -> bool
     first || second
 }
 
-/// The end of a turn: blocks joined, and then what nobody needs gone; and whether that may have changed the function.
-fn turn_from_merge(alloc: Global, f: Function) -> Result<(Function, bool), AllocError>
+/// The end of a turn: blocks joined, over these predecessor edges, and then what nobody needs gone; and whether that may have
+/// changed the function.
+fn turn_from_merge(
+    alloc: Global,
+    f: Function,
+    edges: &Edges,
+) -> Result<(Function, bool), AllocError>
     requires sound { Sound f }
+    requires graph { IsGraphOf f edges.now }
     ensures made { IfOk result (λ made. (merged : Function) × IsMergeOf f merged × IsNeededOf merged made.0) }
     ensures same { IfOk result (λ made. made.1 ≡ false → made.0 ≡ f) }
 {
-    let (merged, joined) = into_merged(alloc, f)?;
+    let (merged, joined) = into_merged(alloc, f, edges)?;
     let (g, swept) = into_needed(alloc, merged)?;
     Ok((g, either(joined, swept)))
 }
 
-/// A turn from where blocks that aren't reached go, where these are reached.
-fn turn_from_trim(
+/// The end of a turn behind the trim, which may have changed the function: its edges are those from before, unless it did.
+fn turn_from_joins(
     alloc: Global,
     f: Function,
-    reached: &Bits,
+    before: &Edges,
+    cut: bool,
 ) -> Result<(Function, bool), AllocError>
     requires sound { Sound f }
-    requires reach { IsReach f reached.now }
+    requires graph { cut ≡ false → IsGraphOf f before.now }
+    ensures made { IfOk result (λ made. (merged : Function) × IsMergeOf f merged × IsNeededOf merged made.0) }
+    ensures same { IfOk result (λ made. made.1 ≡ false → made.0 ≡ f) }
+{
+    if cut {
+        let edges = preds(alloc, &f)?;
+        return turn_from_merge(alloc, f, &edges);
+    }
+    turn_from_merge(alloc, f, before)
+}
+
+/// A turn from where blocks that aren't reached go, of a function of this control flow.
+fn turn_from_trim(alloc: Global, f: Function, flow: &Flow) -> Result<(Function, bool), AllocError>
+    requires sound { Sound f }
+    requires flow { IsFlowOf f flow.now }
     ensures made { IfOk result (λ made. (trimmed merged : Function) × IsTrimOf f trimmed × IsMergeOf trimmed merged × IsNeededOf merged made.0) }
     ensures same { IfOk result (λ made. made.1 ≡ false → made.0 ≡ f) }
 {
-    let (trimmed, cut) = into_trimmed(alloc, f, reached)?;
-    let (g, changed) = turn_from_merge(alloc, trimmed)?;
+    let (trimmed, cut) = into_trimmed(alloc, f, &flow.reached)?;
+    let (g, changed) = turn_from_joins(alloc, trimmed, &flow.edges, cut)?;
     Ok((g, either(cut, changed)))
 }
 
-/// The blocks that are reached: those that were, unless branches were decided.
-fn reached_now(alloc: Global, f: &Function, before: Bits, decided: bool) -> Result<Bits, AllocError>
-    requires { decided ≡ false → IsReach f.now before }
-    ensures { IfOk result (IsReach f.now) }
+/// A turn behind the branches, of which some may have been decided: control flow is that from before, unless some were.
+fn turn_from_jumps(
+    alloc: Global,
+    f: Function,
+    before: &Flow,
+    decided: bool,
+) -> Result<(Function, bool), AllocError>
+    requires sound { Sound f }
+    requires flow { decided ≡ false → IsFlowOf f before.now }
+    ensures made { IfOk result (λ made. (trimmed merged : Function) × IsTrimOf f trimmed × IsMergeOf trimmed merged × IsNeededOf merged made.0) }
+    ensures same { IfOk result (λ made. made.1 ≡ false → made.0 ≡ f) }
 {
     if decided {
-        return reachable(alloc, f);
+        let flow = Flow::of(alloc, &f)?;
+        return turn_from_trim(alloc, f, &flow);
     }
-    Ok(before)
+    turn_from_trim(alloc, f, before)
 }
 
-/// A turn from where decided branches become jumps, where these blocks are reached before that.
+/// A turn from where decided branches become jumps, of a function of this control flow.
 fn turn_from_branches(
     alloc: Global,
     f: Function,
-    before: Bits,
+    flow: &Flow,
 ) -> Result<(Function, bool), AllocError>
     requires sound { Sound f }
-    requires reach { IsReach f before }
+    requires flow { IsFlowOf f flow.now }
     ensures made { IfOk result (λ made. (trimmed merged : Function) × IsTrimOf (simplified f) trimmed × IsMergeOf trimmed merged × IsNeededOf merged made.0) }
     ensures same { IfOk result (λ made. made.1 ≡ false → made.0 ≡ f) }
 {
     let (simplified, decided) = into_simplified(alloc, f)?;
-    let reached = reached_now(alloc, &simplified, before, decided)?;
-    let (g, changed) = turn_from_trim(alloc, simplified, &reached)?;
+    let (g, changed) = turn_from_jumps(alloc, simplified, flow, decided)?;
     Ok((g, either(decided, changed)))
 }
 
-/// The blocks that are reached, where all are: those of a function that has fewer than `2^32`.
-fn all_blocks(alloc: Global, f: &Function) -> Result<Bits, AllocError>
-    requires { AllReached f.now }
-    ensures { IfOk result (IsReach f.now) }
-{
-    let blocks = f.blocks.len();
-    if blocks > u32::MAX as usize {
-        return Err(AllocError);
-    }
-    let full = Bits::full(alloc, blocks as u32)?;
-    Ok(full)
-}
-
-/// The blocks that are reached, which are looked for where it isn't known that all are.
-fn reached_first(alloc: Global, f: &Function, known: bool) -> Result<Bits, AllocError>
-    requires { known ≡ true → AllReached f.now }
-    ensures { IfOk result (IsReach f.now) }
-{
-    if known {
-        return all_blocks(alloc, f);
-    }
-    reachable(alloc, f)
-}
-
 /// Copies and constants propagated, decided branches as jumps, what isn't reached gone, blocks joined, and then what
-/// nobody needs gone; and whether that may have changed the function. Its caller may know that all blocks are reached.
-fn turn(alloc: Global, f: Function, known: bool) -> Result<(Function, bool), AllocError>
+/// nobody needs gone, in a function of this control flow; and whether that may have changed the function.
+fn turn(alloc: Global, f: Function, flow: &Flow) -> Result<(Function, bool), AllocError>
     requires sound { Sound f }
-    requires known { known ≡ true → AllReached f }
+    requires flow { IsFlowOf f flow.now }
     ensures made { IfOk result (λ made. IsTurn f made.0) }
     ensures sound { IfOk result (λ made. Sound made.0) }
     ensures same { IfOk result (λ made. made.1 ≡ false → made.0 ≡ f) }
 {
     turn_is_better();
-    let reached = reached_first(alloc, &f, known)?;
-    let (propagated, replaced) = into_applied(alloc, f, &reached)?;
-    let (g, changed) = turn_from_branches(alloc, propagated, reached)?;
+    let (propagated, replaced) = into_applied(alloc, f, &flow.edges, &flow.reached)?;
+    let (g, changed) = turn_from_branches(alloc, propagated, flow)?;
     Ok((g, either(replaced, changed)))
+}
+
+/// A turn of a function whose control flow isn't known.
+fn turn_anew(alloc: Global, f: Function) -> Result<(Function, bool), AllocError>
+    requires { Sound f }
+    ensures made { IfOk result (λ made. IsTurn f made.0) }
+    ensures sound { IfOk result (λ made. Sound made.0) }
+    ensures same { IfOk result (λ made. made.1 ≡ false → made.0 ≡ f) }
+{
+    let flow = Flow::of(alloc, &f)?;
+    turn(alloc, f, &flow)
 }
 
 /// Two turns, of which the second is left out where the first changes nothing.
@@ -140,21 +152,21 @@ fn two_turns(alloc: Global, f: Function) -> Result<Function, AllocError>
     requires sound { Sound f }
     ensures { IfOk result (λ g. AreTurns 2 f g) }
 {
-    let (once, changed) = turn(alloc, f, false)?;
+    let (once, changed) = turn_anew(alloc, f)?;
     if !changed {
         return Ok(once);
     }
-    let (g, _) = turn(alloc, once, false)?;
+    let (g, _) = turn_anew(alloc, once)?;
     Ok(g)
 }
 
-/// Three turns, of which those are left out that stand behind one that changes nothing.
-fn turns(alloc: Global, f: Function, known: bool) -> Result<Function, AllocError>
+/// Three turns of a function of this control flow, of which those are left out that stand behind one that changes nothing.
+fn turns(alloc: Global, f: Function, flow: &Flow) -> Result<Function, AllocError>
     requires sound { Sound f }
-    requires known { known ≡ true → AllReached f }
+    requires flow { IsFlowOf f flow.now }
     ensures { IfOk result (λ g. AreTurns 3 f g) }
 {
-    let (once, changed) = turn(alloc, f, known)?;
+    let (once, changed) = turn(alloc, f, flow)?;
     if !changed {
         return Ok(once);
     }
@@ -194,32 +206,48 @@ fn walks(alloc: Global, bodies: &Bodies<'_>, f: Function) -> Result<(Function, b
 }
 
 /// Three turns, and then numbers in the order of the text.
-fn turned(alloc: Global, f: Function, known: bool) -> Result<Function, AllocError>
+fn turned(alloc: Global, f: Function, flow: &Flow) -> Result<Function, AllocError>
     requires sound { Sound f }
-    requires known { known ≡ true → AllReached f }
+    requires flow { IsFlowOf f flow.now }
     ensures { IfOk result (λ g. (turned : Function) × AreTurns 3 f turned × (g ≡ in_text_order turned)) }
 {
-    let turned = turns(alloc, f, known)?;
+    let turned = turns(alloc, f, flow)?;
     let g = renumber(alloc, &turned)?;
     Ok(g)
 }
 
-/// Stack slots as values, three turns, and then numbers in the order of the text. The slots' values go over the edges that
-/// are there.
-fn promoted(alloc: Global, f: Function, known: bool) -> Result<Function, AllocError>
+/// Stack slots as values, three turns, and then numbers in the order of the text, of a function of this control flow. The slots'
+/// values go over the edges that are there.
+fn promoted(alloc: Global, f: Function, flow: &Flow) -> Result<Function, AllocError>
     requires sound { Sound f }
-    requires known { known ≡ true → AllReached f }
+    requires flow { IsFlowOf f flow.now }
     ensures { IfOk result (λ g. (turned : Function) × AreTurns 3 (promoted_function f) turned × (g ≡ in_text_order turned)) }
 {
-    let promoted = into_promoted(alloc, f)?;
-    turned(alloc, promoted, known)
+    let promoted = into_promoted(alloc, f, &flow.edges)?;
+    turned(alloc, promoted, flow)
 }
 
-/// Whether what is known of a function is known of it still, which may have been changed.
-fn still(known: bool, changed: bool) -> bool
-    ensures { result ≡ (known && not changed) }
+/// What is known of a function's control flow, unless it may have been changed.
+fn still(flow: Option<&Flow>, changed: bool) -> Option<&Flow>
+    ensures { IfSome result (λ now. (changed ≡ false) × (flow.entry ≡ Some now)) }
 {
-    known && !changed
+    if changed {
+        return None;
+    }
+    flow
+}
+
+/// The same, of a function whose control flow may be known.
+fn promoted_over(alloc: Global, f: Function, flow: Option<&Flow>) -> Result<Function, AllocError>
+    requires sound { Sound f }
+    requires flow { IfSome flow (λ w. IsFlowOf f w.now) }
+    ensures { IfOk result (λ g. (turned : Function) × AreTurns 3 (promoted_function f) turned × (g ≡ in_text_order turned)) }
+{
+    if let Some(flow) = flow {
+        return promoted(alloc, f, flow);
+    }
+    let flow = Flow::of(alloc, &f)?;
+    promoted(alloc, f, &flow)
 }
 
 /// Bodies inlined, stack slots as values, three turns, and then numbers in the order of the text.
@@ -227,55 +255,55 @@ fn optimised(
     alloc: Global,
     bodies: &Bodies<'_>,
     f: Function,
-    known: bool,
+    flow: Option<&Flow>,
 ) -> Result<Function, AllocError>
     requires sound { Sound f }
     requires bodies { AreSound (bodies_in bodies.now) }
-    requires known { known ≡ true → AllReached f }
+    requires flow { IfSome flow (λ w. IsFlowOf f w.now) }
     ensures { IfOk result (λ g. IsOptimised (bodies_in bodies.now) f g) }
 {
     let (walked, changed) = walks(alloc, bodies, f)?;
-    promoted(alloc, walked, still(known, changed))
+    promoted_over(alloc, walked, still(flow, changed))
 }
 
 fn made(
     alloc: Global,
     bodies: &Bodies<'_>,
     f: &Function,
-    known: bool,
+    flow: Option<&Flow>,
 ) -> Result<Function, AllocError>
     requires sound { Sound f.now }
     requires bodies { AreSound (bodies_in bodies.now) }
-    requires known { known ≡ true → AllReached f.now }
+    requires flow { IfSome flow (λ w. IsFlowOf f.now w.now) }
     ensures { IfOk result (λ g. IsMade (bodies_in bodies.now) f.now g) }
 {
     let copy = f.duplicate(alloc)?;
     if copy.optnone {
         Ok(copy)
     } else {
-        optimised(alloc, bodies, copy, known)
+        optimised(alloc, bodies, copy, flow)
     }
 }
 
 /// What the back end makes of a sound function with these bodies: optimised, unless it is `optnone` (LangRef, "Function
 /// Attributes").
 ///
-/// It is sound, and better in every program whose own the bodies are. Its caller may know that all blocks of the function are
-/// reached, and they aren't looked for then where nothing is inlined. A number past 32 bits is answered as want of memory.
+/// It is sound, and better in every program whose own the bodies are. Its caller may know the function's control flow, which isn't
+/// found again then where nothing is inlined. A number past 32 bits is answered as want of memory.
 pub fn compile(
     alloc: Global,
     bodies: &Bodies<'_>,
     f: &Function,
-    reached: bool,
+    flow: Option<&Flow>,
 ) -> Result<Function, AllocError>
     requires sound { Sound f.now }
     requires bodies { AreSound (bodies_in bodies.now) }
-    requires reached { reached ≡ true → AllReached f.now }
+    requires flow { IfSome flow (λ w. IsFlowOf f.now w.now) }
     ensures made { IfOk result (λ g. IsMade (bodies_in bodies.now) f.now g) }
     ensures better { IfOk result (λ g. IsBetterWith (bodies_in bodies.now) g f.now) }
     ensures sound { IfOk result (λ g. Sound g) }
 {
     made_is_better();
-    let g = made(alloc, bodies, f, reached)?;
+    let g = made(alloc, bodies, f, flow)?;
     Ok(g)
 }

@@ -14,7 +14,10 @@ use Rattle.ir_tree.specs.contracts.module.GlobalValue as global
 use Rattle.ir_tree.specs.contracts.operand.Argument as argument
 use Rattle.ir_tree.specs.contracts.operand.Reg as reg
 use Rattle.ir_tree.specs.contracts.rows.Rows as rows
-use Rattle.ir_flow.specs.contracts.marked_value.MarkedValue as marked
+use Rattle.lto_sets.specs.contracts.bits.Bits as bits
+use Rattle.ir_flow.specs.contracts.graph.Edges as edges
+use Rattle.ir_flow.specs.contracts.flow.Flow as flow
+use Rattle.ir_flow.specs.contracts.analysed_value.AnalysedValue as analysed
 use Rattle.lto_task.specs.contracts.task.Task as task
 use Rattle.lto_task.specs.contracts.task.TaskModule as task_module
 
@@ -53,14 +56,23 @@ variable_sync = search (sendable, crosses, shapes.crosses) depth 60 fits 20000
 pub global_sync : IsSync (global.the_field).row
 global_sync = search (variable_sync, function_sync, sendable, crosses) depth 60 fits 20000
 
-pub marked_sync : IsSync marked.the_row
-marked_sync = search (global_sync, sendable, crosses) depth 60 fits 20000
+pub bits_sync : IsSync bits.the_row
+bits_sync = search (sendable, crosses) depth 60 fits 20000
 
-pub marked_values_sync : IsSync (rows.the_row marked.the_row)
-marked_values_sync = search (marked_sync, sendable, crosses) depth 60 fits 20000
+pub edges_sync : IsSync edges.the_row
+edges_sync = search (sendable, crosses) depth 60 fits 20000
+
+pub flow_sync : IsSync flow.the_row
+flow_sync = search (bits_sync, edges_sync, sendable, crosses) depth 60 fits 20000
+
+pub analysed_sync : IsSync analysed.the_row
+analysed_sync = search (global_sync, flow_sync, sendable, crosses) depth 60 fits 20000
+
+pub analysed_values_sync : IsSync (rows.the_row analysed.the_row)
+analysed_values_sync = search (analysed_sync, sendable, crosses) depth 60 fits 20000
 
 pub task_module_sync : (κ : NamedLft) → IsSync (task_module.the_field κ).row
-task_module_sync κ = search (marked_values_sync, marked_sync, sendable, crosses) depth 60 fits 20000
+task_module_sync κ = search (analysed_values_sync, analysed_sync, sendable, crosses) depth 60 fits 20000
 
 pub task_sync : (κ : NamedLft) → IsSync (task.the_row κ)
 task_sync κ = search (task_module_sync, sendable, crosses) depth 60 fits 20000

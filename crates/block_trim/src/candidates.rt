@@ -1,11 +1,12 @@
 //! Blocks that can go into another one.
 ghost use Rattle.std.specs.Prelude.{◌≡◌, ◌&&◌, ℕ, nat_eq, length, IfOk};
 ghost use Rattle.std.specs.HashSet as hash;
+ghost use Rattle.ir_flow.specs.OfFunction.{IsGraphOf};
 ghost use Rattle.block_trim.specs.Merged.{behind_entry};
 ghost use Rattle.block_trim.specs.Working.{has_one_edge, may_go};
 
 use crate::reached::add_if;
-use ir_flow::preds;
+use ir_flow::Edges;
 use ir_tree::{Block, Function};
 use std::alloc::{AllocError, Global};
 use std::collections::HashSet;
@@ -18,10 +19,14 @@ fn is_candidate(block: &Block, edges: &[u32]) -> bool
 }
 
 /// The numbers of the blocks behind the entry that have no phis and to which one edge leads.
-pub(crate) fn candidates(alloc: Global, f: &Function) -> Result<HashSet<u32>, AllocError>
+pub(crate) fn candidates(
+    alloc: Global,
+    f: &Function,
+    edges: &Edges,
+) -> Result<HashSet<u32>, AllocError>
+    requires graph { IsGraphOf f.now edges.now }
     ensures { IfOk result (λ s. (n : ℕ) → hash.contains nat_eq s n ≡ may_go (has_one_edge f.now.blocks) (behind_entry f.now.blocks) n) }
 {
-    let edges = preds(alloc, f)?;
     let blocks = f.blocks.as_slice();
     let mut numbers = HashSet::new(alloc);
     for place in 1..blocks.len() {

@@ -11,9 +11,9 @@
 //! [`merge`] makes lead from the function to its result, one after another, and no blocks are left there to be joined
 //! (`specs/Merged`): there is one such function. Both are better in every program, and sound where the function is.
 //!
-//! **Cost.** Time and memory are linear in the function and the greatest number of a block: edges are listed once, two
-//! blocks are joined in constant time, since their lines stand in linked lists until all are joined, so that each
-//! instruction moves once, and phi entries are renamed by one table.
+//! **Cost.** Time and memory are linear in the function and the greatest number of a block: two blocks are joined in
+//! constant time, since their lines stand in linked lists until all are joined, so that each instruction moves once,
+//! and phi entries are renamed by one table. [`merge`] lists the edges once, and who calls [`into_merged`] has them.
 //!
 //! **Not shown.** That memory is found.
 #![tactic(auto)]

@@ -3,6 +3,7 @@ ghost use Rattle.std.specs.Prelude.{◌≡◌, ◌-◌, ◌^◌, ℕ, false, nat
 ghost use Rattle.std.specs.HashSet.{contains};
 ghost use Rattle.ir_tree.specs.Formed.{Distinct, numbers};
 ghost use Rattle.ir_tree.specs.Rules.{Sound};
+ghost use Rattle.ir_flow.specs.OfFunction.{IsGraphOf};
 ghost use Rattle.ir_meaning.specs.Near.{BetterThan};
 ghost use Rattle.ir_meaning.specs.Program.{Program};
 ghost use Rattle.ir_meaning.specs.Formed.{IsFormed};
@@ -12,6 +13,7 @@ ghost use Rattle.block_trim.specs.Working.{has_one_edge, may_go};
 use crate::candidates::candidates;
 use crate::joining::Joining;
 use crate::unjoined::all_stay;
+use ir_flow::{Edges, preds};
 use ir_tree::{Duplicate, Function};
 use std::alloc::{AllocError, Global};
 use std::collections::HashSet;
@@ -50,21 +52,27 @@ pub fn merge(alloc: Global, f: &Function) -> Result<Function, AllocError>
     ensures better { IfOk result (λ g. Sound f.now → (p : Program) → IsFormed p → BetterThan p (2 ^ (length f.now.blocks - length g.blocks)) g f.now) }
     ensures sound { IfOk result (λ g. Sound f.now → Sound g) }
 {
-    let candidates = candidates(alloc, f)?;
+    let edges = preds(alloc, f)?;
+    let candidates = candidates(alloc, f, &edges)?;
     let g = merged(alloc, f, candidates)?;
     Ok(g)
 }
 
 /// What [`merge`] makes of a function that is given up, and whether that may be another one: where no block takes another
-/// one it is the function itself.
+/// one it is the function itself. Its caller knows the function's predecessor edges.
 ///
-/// Refused as [`merge`] is.
-pub fn into_merged(alloc: Global, f: Function) -> Result<(Function, bool), AllocError>
+/// Only want of memory refuses a function.
+pub fn into_merged(
+    alloc: Global,
+    f: Function,
+    edges: &Edges,
+) -> Result<(Function, bool), AllocError>
+    requires graph { IsGraphOf f edges.now }
     ensures merged { IfOk result (λ made. Distinct (numbers f) → IsMergeOf f made.0) }
     ensures sound { IfOk result (λ made. Sound f → Sound made.0) }
     ensures same { IfOk result (λ made. made.1 ≡ false → made.0 ≡ f) }
 {
-    let candidates = candidates(alloc, &f)?;
+    let candidates = candidates(alloc, &f, edges)?;
     let stay = all_stay(&candidates, f.blocks.as_slice());
     if stay {
         return Ok((f, false));

@@ -12,8 +12,8 @@
 //! **Promise.** Each call equals its definition. A block that stands above another, and is another, stands above its
 //! predecessors as well ([`is_above`]), but for the entry.
 //!
-//! **Cost.** Each function is one walk, and dominators are those of `ir_flow`. In place what names no local that is
-//! replaced stays as it is. At points a use is looked up in each fact.
+//! **Cost.** Each function is one walk, and dominators are those of `ir_flow`; who calls [`above`] has the predecessor
+//! edges. In place what names no local that is replaced stays as it is. At points a use is looked up in each fact.
 //!
 //! **Not shown.** Here, that a fact holds: `ir_facts` has what may stand for a local, and the laws.
 #![tactic(auto)]

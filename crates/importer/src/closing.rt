@@ -10,18 +10,18 @@ use crate::names::{references_of, sort_names};
 use crate::outside::host_named;
 use crate::setting::Setting;
 use crate::table::noted;
-use ir_flow::MarkedValue;
+use ir_flow::AnalysedValue;
 use ir_tree::{GlobalValue, Rows};
 use lto_task::{TaskModule, declaration_of};
 use std::alloc::{AllocError, Global};
 use std::collections::HashMap;
 
 /// Adds a declaration, if there is one.
-fn push_some(list: &mut Rows<MarkedValue>, value: Option<GlobalValue>) -> Result<(), AllocError>
+fn push_some(list: &mut Rows<AnalysedValue>, value: Option<GlobalValue>) -> Result<(), AllocError>
     ensures { OnOk result (list.new ≡ list.old ++ option_list value) }
 {
     if let Some(global) = value {
-        list.push(MarkedValue::of(global, false))?;
+        list.push(AnalysedValue::of(global, None))?;
     }
     Ok(())
 }
@@ -44,7 +44,7 @@ impl<'a> Setting<'a> {
     fn lacked_as(
         &self,
         alloc: Global,
-        own: &HashMap<&[u8], &MarkedValue>,
+        own: &HashMap<&[u8], &AnalysedValue>,
         name: &[u8],
     ) -> Result<Option<GlobalValue>, AllocError>
         ensures { IfOk result (λ found. found ≡ lacked_as (joined self.now.parts.now) (value_in own.now) name.now) }
@@ -59,9 +59,9 @@ impl<'a> Setting<'a> {
     fn declarations(
         &self,
         alloc: Global,
-        own: &HashMap<&[u8], &MarkedValue>,
+        own: &HashMap<&[u8], &AnalysedValue>,
         names: &[&[u8]],
-    ) -> Result<Rows<MarkedValue>, AllocError>
+    ) -> Result<Rows<AnalysedValue>, AllocError>
         ensures { IfOk result (λ declared. declared ≡ filter_map (lacked_as (joined self.now.parts.now) (value_in own.now)) (texts names.now)) }
     {
         let mut declared = Rows::new(alloc);
@@ -76,7 +76,7 @@ impl<'a> Setting<'a> {
     pub(crate) fn module_of(
         &self,
         alloc: Global,
-        defined: Vec<&'a MarkedValue>,
+        defined: Vec<&'a AnalysedValue>,
     ) -> Result<TaskModule<'a>, AllocError>
         ensures { IfOk result (λ m. IsModuleOf (joined self.now.parts.now) (values defined.entry.items) (globals_of m)) }
     {

@@ -8,7 +8,7 @@ ghost use Rattle.lto_task.specs.Pieces.{NamesRise};
 ghost use Rattle.merge_meaning.specs.ByName.{has};
 ghost use Rattle.importer.specs.Tables.{values};
 
-use ir_flow::MarkedValue;
+use ir_flow::AnalysedValue;
 use ir_summary::references;
 use ir_tree::{Rows, Text};
 use std::alloc::{AllocError, Global};
@@ -60,7 +60,7 @@ pub fn copies(alloc: Global, names: &[&[u8]]) -> Result<Rows<Text>, AllocError>
 /// All names to which these values refer, as often as they do.
 pub(crate) fn references_of<'a>(
     alloc: Global,
-    globals: &[&'a MarkedValue],
+    globals: &[&'a AnalysedValue],
 ) -> Result<Vec<&'a [u8]>, AllocError>
     ensures { IfOk result (λ names. texts names.items ≡ flat_map global_names (values globals.now)) }
 {

@@ -8,15 +8,15 @@ ghost use Rattle.importer.specs.Brought.{brought, joined, value_named, value_of}
 ghost use Rattle.importer.specs.Tables.{option_list, value_in, values};
 
 use combined_index::final_name;
-use ir_flow::MarkedValue;
+use ir_flow::AnalysedValue;
 use ir_tree::{Rows, Symbol, Text};
 use std::alloc::{AllocError, Global};
 use std::collections::{HashMap, HashSet};
 
 /// Adds a value to those that are borrowed, if there is one.
 fn push_some<'a>(
-    list: &mut Vec<&'a MarkedValue>,
-    value: Option<&'a MarkedValue>,
+    list: &mut Vec<&'a AnalysedValue>,
+    value: Option<&'a AnalysedValue>,
 ) -> Result<(), AllocError>
     ensures { OnOk result (values list.new.items ≡ values list.old.items ++ option_list (option_copied value.entry)) }
 {
@@ -38,7 +38,7 @@ pub(crate) fn symbol_at(symbols: &[Symbol], number: u32) -> Option<&Symbol>
 }
 
 /// The part of this number.
-pub(crate) fn part_at(parts: &[Rows<MarkedValue>], number: usize) -> &[MarkedValue]
+pub(crate) fn part_at(parts: &[Rows<AnalysedValue>], number: usize) -> &[AnalysedValue]
     ensures { result.now ≡ slice_index_or parts.now number [] }
 {
     match parts.get(number) {
@@ -60,7 +60,7 @@ pub(crate) fn list_at(lists: &[Vec<u32>], number: usize) -> &[u32]
 /// What tasks are made of: the parts, what the index decided, and which names are exported.
 #[derive(Drop)]
 pub(crate) struct Setting<'a> {
-    pub(crate) parts: &'a [Rows<MarkedValue>],
+    pub(crate) parts: &'a [Rows<AnalysedValue>],
     pub(crate) symbols: &'a [Symbol],
     pub(crate) suffixes: &'a [Text],
     pub(crate) imports: &'a [Vec<u32>],
@@ -68,14 +68,14 @@ pub(crate) struct Setting<'a> {
     pub(crate) limit: u32,
     pub(crate) exports: &'a [Text],
     pub(crate) exported: HashSet<&'a [u8]>,
-    pub(crate) table: HashMap<&'a [u8], &'a MarkedValue>,
+    pub(crate) table: HashMap<&'a [u8], &'a AnalysedValue>,
     ghost knows: { (name : List ℕ) → has exported name ≡ list_any (bytes_eq name) exports.now },
     ghost finds: { (name : List ℕ) → value_in table name ≡ value_named (joined parts.now) name },
 }
 
 impl<'a> Setting<'a> {
     /// The value of this name.
-    pub(crate) fn value_named(&self, name: &[u8]) -> Option<&'a MarkedValue>
+    pub(crate) fn value_named(&self, name: &[u8]) -> Option<&'a AnalysedValue>
         ensures { option_copied result ≡ value_named (joined self.now.parts.now) name.now }
     {
         match self.table.get(&name) {
@@ -89,7 +89,7 @@ impl<'a> Setting<'a> {
         &self,
         alloc: Global,
         symbol: Option<&Symbol>,
-    ) -> Result<Option<&'a MarkedValue>, AllocError>
+    ) -> Result<Option<&'a AnalysedValue>, AllocError>
         ensures { IfOk result (λ found. option_copied found ≡ value_of (joined self.now.parts.now) self.now.suffixes.now (option_copied symbol.entry)) }
     {
         let Some(symbol) = symbol else {
@@ -103,7 +103,7 @@ impl<'a> Setting<'a> {
     pub(crate) fn push_brought(
         &self,
         alloc: Global,
-        list: &mut Vec<&'a MarkedValue>,
+        list: &mut Vec<&'a AnalysedValue>,
         numbers: &[u32],
     ) -> Result<(), AllocError>
         ensures { OnOk result (values list.new.items ≡ values list.old.items ++ brought (joined self.now.parts.now) self.now.symbols.now self.now.suffixes.now numbers.now) }

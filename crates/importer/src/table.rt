@@ -5,7 +5,7 @@ ghost use Rattle.ir_meaning.specs.Programs.{symbol_of};
 ghost use Rattle.importer.specs.Brought.{joined, value_named};
 ghost use Rattle.importer.specs.Tables.{value_in, values};
 
-use ir_flow::MarkedValue;
+use ir_flow::AnalysedValue;
 use ir_meaning::symbol_of;
 use ir_tree::Rows;
 use std::alloc::{AllocError, Global};
@@ -13,8 +13,8 @@ use std::collections::HashMap;
 
 /// Adds these global values to those that are borrowed.
 pub fn push_all<'a>(
-    all: &mut Vec<&'a MarkedValue>,
-    globals: &'a [MarkedValue],
+    all: &mut Vec<&'a AnalysedValue>,
+    globals: &'a [AnalysedValue],
 ) -> Result<(), AllocError>
     ensures { OnOk result (values all.new.items ≡ values all.old.items ++ globals.entry.now) }
 {
@@ -27,8 +27,8 @@ pub fn push_all<'a>(
 /// The global values of all parts, in their order.
 fn all_of<'a>(
     alloc: Global,
-    parts: &'a [Rows<MarkedValue>],
-) -> Result<Vec<&'a MarkedValue>, AllocError>
+    parts: &'a [Rows<AnalysedValue>],
+) -> Result<Vec<&'a AnalysedValue>, AllocError>
     ensures { IfOk result (λ all. values all.items ≡ joined parts.entry.now) }
 {
     let mut all = Vec::new(alloc);
@@ -40,8 +40,8 @@ fn all_of<'a>(
 
 /// Puts a global value into the table, in the place of one that has its name.
 fn note<'a>(
-    table: &mut HashMap<&'a [u8], &'a MarkedValue>,
-    global: &'a MarkedValue,
+    table: &mut HashMap<&'a [u8], &'a AnalysedValue>,
+    global: &'a AnalysedValue,
 ) -> Result<(), AllocError>
     ensures { OnOk result ((name : List ℕ) → value_in table.new name ≡ if bytes_eq (symbol_of global.entry.now).name name then Some global.entry.now else value_in table.old name) }
 {
@@ -52,8 +52,8 @@ fn note<'a>(
 /// The table of these global values; of one name the first.
 pub(crate) fn noted<'a>(
     alloc: Global,
-    all: &[&'a MarkedValue],
-) -> Result<HashMap<&'a [u8], &'a MarkedValue>, AllocError>
+    all: &[&'a AnalysedValue],
+) -> Result<HashMap<&'a [u8], &'a AnalysedValue>, AllocError>
     ensures { IfOk result (λ table. (name : List ℕ) → value_in table name ≡ value_named (values all.now) name) }
 {
     let mut table = HashMap::new(alloc);
@@ -68,8 +68,8 @@ pub(crate) fn noted<'a>(
 /// The global values of all parts by their names; of one name the first.
 pub(crate) fn table_of<'a>(
     alloc: Global,
-    parts: &'a [Rows<MarkedValue>],
-) -> Result<HashMap<&'a [u8], &'a MarkedValue>, AllocError>
+    parts: &'a [Rows<AnalysedValue>],
+) -> Result<HashMap<&'a [u8], &'a AnalysedValue>, AllocError>
     ensures { IfOk result (λ table. (name : List ℕ) → value_in table name ≡ value_named (joined parts.entry.now) name) }
 {
     let all = all_of(alloc, parts)?;

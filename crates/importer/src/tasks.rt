@@ -14,7 +14,7 @@ use crate::finals::push_names;
 use crate::names::{borrowed, copies, set_of, sort_names};
 use crate::setting::{Setting, list_at, part_at};
 use crate::table::{push_all, table_of};
-use ir_flow::MarkedValue;
+use ir_flow::AnalysedValue;
 use ir_meaning::symbol_of;
 use ir_tree::{Rows, Symbol, Text};
 use lto_task::Task;
@@ -39,7 +39,7 @@ fn push_shared<'a>(
 fn shared_names<'a>(
     alloc: Global,
     set: &HashSet<&[u8]>,
-    globals: &'a [MarkedValue],
+    globals: &'a [AnalysedValue],
 ) -> Result<Vec<&'a [u8]>, AllocError>
     ensures { IfOk result (λ names. texts names.items ≡ filter (has set.now) (map name_of globals.entry.now)) }
 {
@@ -51,7 +51,7 @@ fn shared_names<'a>(
 }
 
 /// Sorts values by name, in the order of bytes; those of one name stay as they stood.
-fn sort_values(list: &mut Vec<&MarkedValue>) -> Result<(), AllocError>
+fn sort_values(list: &mut Vec<&AnalysedValue>) -> Result<(), AllocError>
     ensures { OnOk result (IsInOrder (values list.old.items) (values list.new.items)) }
 {
     list.sort_by(|a, b| {
@@ -68,7 +68,7 @@ impl<'a> Setting<'a> {
     fn exports_of(
         &self,
         alloc: Global,
-        part: &'a [MarkedValue],
+        part: &'a [AnalysedValue],
     ) -> Result<Vec<&'a [u8]>, AllocError>
         ensures rise { IfOk result (λ names. NamesRise (texts names.items)) }
         ensures are { IfOk result (λ names. (name : List ℕ) → Contains (texts names.items) name ↔ (Contains self.now.exports.now name × Contains (map name_of part.entry.now) name)) }
@@ -92,7 +92,7 @@ impl<'a> Setting<'a> {
     }
 
     /// The values of the symbols of these numbers, by name.
-    fn imported(&self, alloc: Global, numbers: &[u32]) -> Result<Vec<&'a MarkedValue>, AllocError>
+    fn imported(&self, alloc: Global, numbers: &[u32]) -> Result<Vec<&'a AnalysedValue>, AllocError>
         ensures { IfOk result (λ list. IsInOrder (brought (joined self.now.parts.now) self.now.symbols.now self.now.suffixes.now numbers.now) (values list.items)) }
     {
         let mut list = Vec::new(alloc);
@@ -138,7 +138,7 @@ impl<'a> Setting<'a> {
 /// The tasks of the modules, in command order, where these names are exported. The parts are those of all modules.
 pub fn tasks_of<'a>(
     alloc: Global,
-    parts: &'a [Rows<MarkedValue>],
+    parts: &'a [Rows<AnalysedValue>],
     symbols: &'a [Symbol],
     suffixes: &'a [Text],
     imports: &'a [Vec<u32>],

@@ -13,11 +13,12 @@ use Rattle.ir_tree.specs.declared.function.Function.{Function}
 use Rattle.ir_tree.specs.declared.instr.Line.{Line}
 use Rattle.ir_tree.specs.declared.operand.Reg.{Reg}
 use Rattle.ir_edit.specs.Numbered.{line_numbers, local_number, phi_numbers}
-use Rattle.ir_flow.specs.OfFunction.{IsReach}
+use Rattle.ir_flow.specs.OfFunction.{IsGraphOf, IsReach}
 use Rattle.fact_sources.specs.Apart.{IsApart, given_apart, given_where, is_listed}
 use Rattle.ir_facts.specs.Settled.{IsSettled, LinesFirm, settled, settled_block, settled_line}
 use Rattle.ir_facts.specs.Steps.{AllReached}
 use Rattle.ir_facts.proofs.Chosen.{settled_firm, type_settled}
+use Rattle.ir_flow.proofs.Reaching.{graph_stays, reach_stays}
 
 -- ---- lines and blocks
 
@@ -137,23 +138,16 @@ module _ (f : Function) where
   path_then [] b path = (path.0, subst (λ (n : ℕ). b < n) (sym (length-map f.blocks settled_block)) path.1)
   path_then (p ∷ ps) b path = (subst (Among p) (sym (edges_settled b)) path.0, path_then ps p path.1)
 
-  path_was : (ps : List ℕ) (b : ℕ) → Path (settled f) ps b → Path f ps b
-  path_was [] b path = (path.0, subst (λ (n : ℕ). b < n) (length-map f.blocks settled_block) path.1)
-  path_was (p ∷ ps) b path = (subst (Among p) (edges_settled b) path.0, path_was ps p path.1)
-
   pub reached_settled : AllReached f → AllReached (settled f)
   reached_settled all b lt =
       let way = all b (subst (λ (n : ℕ). b < n) (length-map f.blocks settled_block) lt) in
       (way.0, path_then way.0 b way.1)
 
   pub reach_settled : (s : List Bool) → IsReach f s → IsReach (settled f) s
-  reach_settled s reach = (
-    reach.0 ∙ sym (length-map f.blocks settled_block),
-    (λ b. (
-      (λ has. let way = (reach.1 b).0 has in (way.0, path_then way.0 b way.1)),
-      (λ way. (reach.1 b).1 (way.0, path_was way.0 b way.1)),
-    )),
-  )
+  reach_settled s reach = reach_stays f (settled f) s (length-map f.blocks settled_block) edges_settled reach
+
+  pub graph_settled : (graph : List (List ℕ)) → IsGraphOf f graph → IsGraphOf (settled f) graph
+  graph_settled graph is = graph_stays f (settled f) graph (length-map f.blocks settled_block) edges_settled is
 
   pub apart_settled : (among : ℕ → Bool) → IsApart f among → IsApart (settled f) among
   apart_settled among a = record {

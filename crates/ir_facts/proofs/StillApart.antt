@@ -1,7 +1,6 @@
--- A step leaves which blocks are reached, and what the others define.
-use Rattle.std.proofs.Common.{◌≡◌, ◌<◌, ℕ, zero, suc, Bool, true, false, List, [], ◌∷◌, ◌++◌, Option, refl, sym, ◌∙◌, ap, subst}
+-- A step leaves edges, which blocks are reached, and what the others define.
+use Rattle.std.proofs.Common.{◌≡◌, ℕ, zero, suc, Bool, true, false, List, [], ◌∷◌, ◌++◌, Option, refl, sym, ◌∙◌, ap, subst}
 use Rattle.lto_sets.specs.Sets.{contains}
-use Rattle.ir_tree.specs.Flow.{Among, Path}
 use Rattle.ir_tree.specs.declared.block.Block.{Block}
 use Rattle.ir_tree.specs.declared.function.Function.{Function}
 use Rattle.ir_tree.specs.declared.instr.Line.{Line}
@@ -9,12 +8,13 @@ use Rattle.ir_tree.specs.declared.instr.Phi.{Phi}
 use Rattle.ir_tree.specs.declared.operand.Operand.{Operand}
 use Rattle.ir_meaning.specs.Facts.{Facts, behind_local, block_replaced, blocks_replaced, function_replaced, lines_replaced, phis_replaced}
 use Rattle.ir_edit.specs.Numbered.{line_numbers, local_number, phi_numbers}
-use Rattle.ir_flow.specs.OfFunction.{IsReach}
+use Rattle.ir_flow.specs.OfFunction.{IsGraphOf, IsReach}
 use Rattle.fact_sources.specs.Apart.{IsApart, given_apart, given_where, is_listed}
 use Rattle.ir_facts.specs.Settled.{settled}
 use Rattle.ir_facts.specs.Steps.{AreRounds, IsRound, IsStep, candidate_of, ends_of}
 use Rattle.ir_facts.proofs.Replaced.{edges_still, length_still}
-use Rattle.ir_facts.proofs.Settling.{apart_settled, reach_settled}
+use Rattle.ir_flow.proofs.Reaching.{graph_stays, reach_stays}
+use Rattle.ir_facts.proofs.Settling.{apart_settled, graph_settled, reach_settled}
 
 module _ (c : ℕ → Option Operand) (starts ends : ℕ → Facts) where
   phis_still : (ps : List Phi) → phi_numbers (phis_replaced ends ps) ≡ phi_numbers ps
@@ -38,22 +38,11 @@ module _ (c : ℕ → Option Operand) (starts ends : ℕ → Facts) where
     abbrev g : Function
     g = function_replaced c starts ends f
 
-    path_then : (ps : List ℕ) (b : ℕ) → Path f ps b → Path g ps b
-    path_then [] b path = (path.0, subst (λ (n : ℕ). b < n) (sym (length_still c starts ends f.blocks)) path.1)
-    path_then (p ∷ ps) b path = (subst (Among p) (sym (edges_still c starts ends f b)) path.0, path_then ps p path.1)
-
-    path_was : (ps : List ℕ) (b : ℕ) → Path g ps b → Path f ps b
-    path_was [] b path = (path.0, subst (λ (n : ℕ). b < n) (length_still c starts ends f.blocks) path.1)
-    path_was (p ∷ ps) b path = (subst (Among p) (edges_still c starts ends f b) path.0, path_was ps p path.1)
-
     pub reach_still : (s : List Bool) → IsReach f s → IsReach g s
-    reach_still s reach = (
-      reach.0 ∙ sym (length_still c starts ends f.blocks),
-      (λ b. (
-        (λ has. let way = (reach.1 b).0 has in (way.0, path_then way.0 b way.1)),
-        (λ way. (reach.1 b).1 (way.0, path_was way.0 b way.1)),
-      )),
-    )
+    reach_still s reach = reach_stays f g s (length_still c starts ends f.blocks) (edges_still c starts ends f) reach
+
+    pub graph_still : (graph : List (List ℕ)) → IsGraphOf f graph → IsGraphOf g graph
+    graph_still graph is = graph_stays f g graph (length_still c starts ends f.blocks) (edges_still c starts ends f) is
 
     still_apart : (among : ℕ → Bool) → IsApart f among → IsApart g among
     still_apart among a = record {
@@ -82,3 +71,17 @@ pub rounds_reach : (n : ℕ) (s : List Bool) (f g : Function) → AreRounds n f 
 unfolding AreRounds
 rounds_reach zero s f g same reach = subst (λ (h : Function). IsReach h s) (sym same) reach
 rounds_reach (suc n) s f g (h, round, more) reach = rounds_reach n s h g more (round_reach s f h round reach)
+
+-- ---- and edges
+
+step_graph : (graph : List (List ℕ)) (c : ℕ → Option Operand) (f g : Function) → IsStep c f g → IsGraphOf f graph → IsGraphOf g graph
+step_graph graph c f g step is =
+    subst (λ (h : Function). IsGraphOf h graph) (sym (step.most step.starts step.solution (λ n x v h. h))) (graph_still c step.starts (ends_of c step.starts f) f graph is)
+
+pub round_graph : (graph : List (List ℕ)) (f g : Function) → IsRound f g → IsGraphOf f graph → IsGraphOf g graph
+round_graph graph f g round is = step_graph graph (candidate_of (settled f)) (settled f) g round (graph_settled f graph is)
+
+pub rounds_graph : (n : ℕ) (graph : List (List ℕ)) (f g : Function) → AreRounds n f g → IsGraphOf f graph → IsGraphOf g graph
+unfolding AreRounds
+rounds_graph zero graph f g same is = subst (λ (h : Function). IsGraphOf h graph) (sym same) is
+rounds_graph (suc n) graph f g (h, round, more) is = rounds_graph n graph h g more (round_graph graph f h round is)

@@ -4,6 +4,7 @@ ghost use Rattle.std.specs.BTreeMap.{get};
 ghost use Rattle.std.specs.HashSet.{contains};
 ghost use Rattle.std.specs.Ordering.{nat_cmp};
 ghost use Rattle.ir_meaning.specs.Facts.{is_phi};
+ghost use Rattle.ir_flow.specs.OfFunction.{IsGraphOf};
 ghost use Rattle.ir_facts.specs.Askable.{BlocksHaveWidths};
 ghost use Rattle.ir_facts.specs.Candidates.{phi_candidates};
 ghost use Rattle.ir_facts.specs.Clear.{IsClear, any_among, block_clear, blocks_clear, entries_barred, is_taken, lines_clear, phis_barred, with_given};
@@ -12,6 +13,7 @@ ghost use Rattle.ir_facts.specs.Scopes.{bars};
 use crate::scopes::{Barred, Scopes, place_of, scopes_of};
 use crate::sources::push_phis;
 use fact_sources::{Beside, defined, end_names, instr_names, is_among, phi_locals};
+use ir_flow::Edges;
 use ir_tree::{Block, Function, Incoming, Line, Operand, Phi};
 use std::alloc::{AllocError, Global};
 use std::collections::HashSet;
@@ -163,10 +165,12 @@ pub(crate) fn is_clear(
     alloc: Global,
     outside: &HashSet<u32>,
     f: &Function,
+    edges: &Edges,
 ) -> Result<bool, AllocError>
     requires sized { BlocksHaveWidths f.now.blocks }
+    requires graph { IsGraphOf f.now edges.now }
     ensures { IfOk result (λ clear. clear ≡ true → IsClear (contains nat_eq outside.now) f.now) }
 {
-    let scopes = scopes_of(alloc, outside, f)?;
+    let scopes = scopes_of(alloc, outside, f, edges)?;
     blocks_clear(alloc, &scopes, f.blocks.as_slice())
 }

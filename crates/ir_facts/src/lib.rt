@@ -19,6 +19,7 @@
 //! has many phis); rounds end behind one that changes nothing. Where no unreached block gives a local a value, blocks are
 //! copied once for all rounds, and a round makes anew only what has a use that is replaced; else each round copies the
 //! function. [`facts`] solves the equations of each fact by itself, and so does a round where blocks aren't clear.
+//! [`facts`] and [`apply`] find the predecessor edges once; [`into_applied`] is given them.
 //!
 //! **Not shown.** How many rounds there are; that the result is shorter.
 #![tactic(auto)]

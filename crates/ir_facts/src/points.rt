@@ -102,21 +102,22 @@ fn fact_of(
     Ok(Fact { local, value, at })
 }
 
-/// The fact of each of these pairs of a local and an operand.
+/// The fact of each of these pairs of a local and an operand, by the function's predecessor edges.
 pub(crate) fn facts_of(
     alloc: Global,
     f: &Function,
+    edges: &Edges,
     pairs: &[(u32, Operand)],
 ) -> Result<Vec<Fact>, AllocError>
     requires formed { Formed f.now }
+    requires graph { IsGraphOf f.now edges.now }
     ensures listed { IfOk result (λ found. map (λ t. (t.local, t.value)) found.items ≡ pairs.now) }
     ensures each { IfOk result (λ found. EachIsFact f.now found.items) }
 {
-    let edges = preds(alloc, f)?;
     let none = Bits::new(alloc, 2)?;
     let mut facts = Vec::with_capacity(alloc, pairs.len())?;
     for pair in pairs {
-        let fact = fact_of(alloc, f, &edges, &none, pair)?;
+        let fact = fact_of(alloc, f, edges, &none, pair)?;
         facts.push(fact)?;
     }
     Ok(facts)
@@ -134,7 +135,8 @@ pub fn facts(alloc: Global, f: &Function) -> Result<Vec<Fact>, AllocError>
     requires formed { Formed f.now }
     ensures { IfOk result (λ found. AreFacts f.now found.items) }
 {
+    let edges = preds(alloc, f)?;
     let found = candidates(alloc, f)?;
-    let facts = facts_of(alloc, f, found.as_slice())?;
+    let facts = facts_of(alloc, f, &edges, found.as_slice())?;
     Ok(facts)
 }

@@ -5,7 +5,7 @@ ghost use Rattle.ir_tree.specs.Rules.{Sound};
 ghost use Rattle.ir_meaning.specs.Near.{BetterThan};
 ghost use Rattle.ir_meaning.specs.Program.{Program};
 ghost use Rattle.ir_meaning.specs.Formed.{IsFormed};
-ghost use Rattle.ir_flow.specs.OfFunction.{IsReach};
+ghost use Rattle.ir_flow.specs.OfFunction.{IsGraphOf, IsReach};
 ghost use Rattle.fact_sources.specs.Apart.{IsApart, resting};
 ghost use Rattle.fact_sources.specs.Substitutions.{IsOf};
 ghost use Rattle.ir_facts.specs.Candidates.{candidates};
@@ -20,7 +20,7 @@ use crate::points::facts_of;
 use crate::sources::candidates;
 use fact_sources::{Substitution, apart, firm, function_at, resting};
 use ir_edit::substitute;
-use ir_flow::reachable;
+use ir_flow::{Edges, Flow};
 use ir_tree::{Block, Duplicate, Function, Operand, Rows};
 use lto_sets::Bits;
 use std::alloc::{AllocError, Global};
@@ -35,18 +35,20 @@ const ROUNDS: u32 = 16;
 fn replaced_at_points(
     alloc: Global,
     f: &Function,
+    edges: &Edges,
     outside: &HashSet<u32>,
     found: &[(u32, Operand)],
     some: &[(u32, Operand)],
 ) -> Result<Function, AllocError>
     requires sound { Sound f.now }
+    requires graph { IsGraphOf f.now edges.now }
     requires apart { IsApart f.now (contains nat_eq outside.now) }
     requires found { found.now ≡ candidates f.now }
     requires some { some.now ≡ resting (contains nat_eq outside.now) found.now }
     ensures { IfOk result (λ g. IsStep (candidate_of f.now) f.now g) }
 {
     let others = firm(alloc, found, outside)?;
-    let facts = facts_of(alloc, f, some)?;
+    let facts = facts_of(alloc, f, edges, some)?;
     let h = substitute(alloc, f, others.as_slice())?;
     let g = function_at(alloc, facts.as_slice(), &h);
     drop(h);
@@ -61,11 +63,13 @@ fn replaced_at_points(
 fn replaced(
     alloc: Global,
     f: &Function,
+    edges: &Edges,
     outside: &HashSet<u32>,
     found: &[(u32, Operand)],
     substitution: &Substitution<'_>,
 ) -> Result<Function, AllocError>
     requires sound { Sound f.now }
+    requires graph { IsGraphOf f.now edges.now }
     requires apart { IsApart f.now (contains nat_eq outside.now) }
     requires found { found.now ≡ candidates f.now }
     requires whole { IsOf found.now substitution.now }
@@ -76,20 +80,22 @@ fn replaced(
     if count == 0 {
         return substitution.applied(alloc, f);
     }
-    let clear = is_clear(alloc, outside, f)?;
+    let clear = is_clear(alloc, outside, f, edges)?;
     if clear {
         return substitution.applied(alloc, f);
     }
-    replaced_at_points(alloc, f, outside, found, some.as_slice())
+    replaced_at_points(alloc, f, edges, outside, found, some.as_slice())
 }
 
 /// Each use of a local replaced where its fact holds at the use; none where no local that is used has a candidate.
 fn forwarded(
     alloc: Global,
     f: &Function,
+    edges: &Edges,
     outside: &HashSet<u32>,
 ) -> Result<Option<Function>, AllocError>
     requires sound { Sound f.now }
+    requires graph { IsGraphOf f.now edges.now }
     requires apart { IsApart f.now (contains nat_eq outside.now) }
     ensures { IfOk result (λ g. IsStep (candidate_of f.now) f.now (or_same f.now g)) }
 {
@@ -99,7 +105,7 @@ fn forwarded(
     if !used {
         return Ok(None);
     }
-    let g = replaced(alloc, f, outside, found.as_slice(), &substitution)?;
+    let g = replaced(alloc, f, edges, outside, found.as_slice(), &substitution)?;
     Ok(Some(g))
 }
 
@@ -119,17 +125,19 @@ fn renewed<T: Drop>(old: T, made: Result<Option<T>, AllocError>) -> Result<(T, b
 fn round(
     alloc: Global,
     f: &Function,
+    edges: &Edges,
     outside: &HashSet<u32>,
 ) -> Result<Option<Function>, AllocError>
     requires sound { Sound f.now }
+    requires graph { IsGraphOf f.now edges.now }
     requires apart { IsApart f.now (contains nat_eq outside.now) }
     ensures { IfOk result (λ g. IsRound f.now (or_same f.now g)) }
 {
     let first = settled(alloc, f)?;
     match first {
-        None => forwarded(alloc, f, outside),
+        None => forwarded(alloc, f, edges, outside),
         Some(h) => {
-            let second = forwarded(alloc, &h, outside);
+            let second = forwarded(alloc, &h, edges, outside);
             let (g, _) = renewed(h, second)?;
             Ok(Some(g))
         }
@@ -141,10 +149,12 @@ fn round(
 fn rounds(
     alloc: Global,
     f: Function,
+    edges: &Edges,
     outside: &HashSet<u32>,
     left: u32,
 ) -> Result<(Function, bool), AllocError>
     requires sound { Sound f }
+    requires graph { IsGraphOf f edges.now }
     requires apart { IsApart f (contains nat_eq outside.now) }
     ensures made { IfOk result (λ made. AreRounds left f made.0) }
     ensures same { IfOk result (λ made. made.1 ≡ false → made.0 ≡ f) }
@@ -152,12 +162,12 @@ fn rounds(
     if left == 0 {
         return Ok((f, false));
     }
-    let next = round(alloc, &f, outside);
+    let next = round(alloc, &f, edges, outside);
     let (g, changed) = renewed(f, next)?;
     if !changed {
         return Ok((g, false));
     }
-    let (h, _) = rounds(alloc, g, outside, left - 1)?;
+    let (h, _) = rounds(alloc, g, edges, outside, left - 1)?;
     Ok((h, true))
 }
 
@@ -167,11 +177,13 @@ fn rounds(
 fn rounds_in_place(
     alloc: Global,
     f: &Function,
+    edges: &Edges,
     mut blocks: Vec<Block>,
     outside: &HashSet<u32>,
     left: u32,
 ) -> Result<(Function, bool), AllocError>
     requires sound { Sound (with_blocks f.now blocks.items) }
+    requires graph { IsGraphOf (with_blocks f.now blocks.items) edges.now }
     requires apart { IsApart (with_blocks f.now blocks.items) (contains nat_eq outside.now) }
     requires none { (x : ℕ) → contains nat_eq outside.now x ≡ false }
     ensures made { IfOk result (λ made. AreRounds left (with_blocks f.now blocks.items) made.0) }
@@ -184,30 +196,34 @@ fn rounds_in_place(
     let free = any_choice_in(blocks.as_slice());
     if free {
         let whole = with_blocks(alloc, f, blocks)?;
-        return rounds(alloc, whole, outside, left);
+        return rounds(alloc, whole, edges, outside, left);
     }
     let changed = forward(alloc, &mut blocks)?;
     if !changed {
         let same = with_blocks(alloc, f, blocks)?;
         return Ok((same, false));
     }
-    let (g, _) = rounds_in_place(alloc, f, blocks, outside, left - 1)?;
+    let (g, _) = rounds_in_place(alloc, f, edges, blocks, outside, left - 1)?;
     Ok((g, true))
 }
 
 /// What [`apply`] makes of a function that is given up, and whether that may be another one: where no round changes anything
-/// it is the function itself. Its caller knows which blocks are reached, and they are reached in what is made.
+/// it is the function itself. Its caller knows the predecessor edges and which blocks are reached, and both are so in what
+/// is made.
 ///
 /// Refused as [`apply`] is.
 pub fn into_applied(
     alloc: Global,
     mut f: Function,
+    edges: &Edges,
     reached: &Bits,
 ) -> Result<(Function, bool), AllocError>
     requires sound { Sound f }
+    requires graph { IsGraphOf f edges.now }
     requires reach { IsReach f reached.now }
     ensures made { IfOk result (λ made. IsApplied f made.0) }
     ensures sound { IfOk result (λ made. Sound made.0) }
+    ensures graph { IfOk result (λ made. IsGraphOf made.0 edges.now) }
     ensures reach { IfOk result (λ made. IsReach made.0 reached.now) }
     ensures same { IfOk result (λ made. made.1 ≡ false → made.0 ≡ f) }
 {
@@ -215,11 +231,11 @@ pub fn into_applied(
     let none = outside.is_empty();
     if none {
         let blocks = replace(&mut f.blocks, Rows::new(alloc)).into_vec();
-        let g = rounds_in_place(alloc, &f, blocks, &outside, ROUNDS);
+        let g = rounds_in_place(alloc, &f, edges, blocks, &outside, ROUNDS);
         drop(f);
         return g;
     }
-    rounds(alloc, f, &outside, ROUNDS)
+    rounds(alloc, f, edges, &outside, ROUNDS)
 }
 
 /// Copy and constant propagation: a sound function with uses of locals replaced by what has their value, the one operand
@@ -239,8 +255,8 @@ pub fn apply(alloc: Global, f: &Function) -> Result<Function, AllocError>
     ensures better { IfOk result (λ g. (p : Program) → IsFormed p → BetterThan p 1 g f.now) }
     ensures sound { IfOk result (λ g. Sound g) }
 {
-    let reached = reachable(alloc, f)?;
+    let flow = Flow::of(alloc, f)?;
     let copy = f.duplicate(alloc)?;
-    let (g, _) = into_applied(alloc, copy, &reached)?;
+    let (g, _) = into_applied(alloc, copy, &flow.edges, &flow.reached)?;
     Ok(g)
 }

@@ -4,6 +4,7 @@ ghost use Rattle.std.specs.BTreeMap.{get};
 ghost use Rattle.std.specs.HashSet.{contains};
 ghost use Rattle.std.specs.Ordering.{nat_cmp};
 ghost use Rattle.ir_flow.specs.Dominating.{dominance};
+ghost use Rattle.ir_flow.specs.OfFunction.{IsGraphOf};
 ghost use Rattle.fact_sources.specs.Above.{is_above as stands_above};
 ghost use Rattle.fact_sources.specs.Apart.{is_listed};
 ghost use Rattle.ir_facts.specs.Askable.{BlocksHaveWidths, LinesHaveWidths};
@@ -15,7 +16,7 @@ use crate::sources::push_block;
 use fact_sources::{
     Beside, Locals, above, defined, is_above, is_among, places, places_by_number, set_of,
 };
-use ir_flow::Dominators;
+use ir_flow::{Dominators, Edges};
 use ir_tree::{Block, Function, Operand};
 use std::alloc::{AllocError, Global};
 use std::collections::{BTreeMap, HashSet};
@@ -227,17 +228,19 @@ fn over_of(
     Ok(set)
 }
 
-/// The tables of a function for the candidates that are locals of the set.
+/// The tables of a function, whose predecessor edges are known, for the candidates that are locals of the set.
 pub(crate) fn scopes_of(
     alloc: Global,
     outside: &HashSet<u32>,
     f: &Function,
+    edges: &Edges,
 ) -> Result<Scopes, AllocError>
     requires sized { BlocksHaveWidths f.now.blocks }
+    requires graph { IsGraphOf f.now edges.now }
     ensures { IfOk result (λ s. AreScopes (contains nat_eq outside.now) f.now s) }
 {
     let blocks = f.blocks.as_slice();
-    let above = above(alloc, f)?;
+    let above = above(alloc, f, edges)?;
     let places = places(alloc, blocks)?;
     let numbers = places_by_number(alloc, blocks)?;
     let inner = inner_of(alloc, outside, blocks)?;

@@ -8,7 +8,8 @@
 //! [`Dominators`] answers dominance by paths (`specs/Dominance`); [`greatest`] gives the greatest solution of any
 //! lawful equations ([`Equations`]), whose marks hold on every path; and a local that one block defines is available
 //! exactly where that block dominates ([`available_by_dominance`]), so that what is available need not be kept as sets.
-//! A [`MarkedValue`] says of a function, wherever it is handed to, that all its blocks are reached.
+//! A [`Flow`] has a function's edges and reached blocks; it goes with a module ([`AnalysedModule`]) and with a global
+//! value ([`AnalysedValue`]), so that a function's control flow need not be found again where it is handed to.
 //!
 //! **Cost.** Edges and reached blocks take time and memory linear in blocks, edges and the greatest number of a block.
 //! Dominators take two rounds over the edges where control flow is reducible, each meeting of two blocks a logarithm of
@@ -18,11 +19,13 @@
 //! **Not shown.** How many rounds there are; that memory is found.
 #![tactic(auto)]
 
+mod analysed_module;
+mod analysed_value;
 mod chains;
 mod dominators;
+mod flow;
 mod graph;
 mod laws;
-mod marked_value;
 mod narrow;
 mod predecessors;
 mod reach;
@@ -32,13 +35,15 @@ mod system;
 mod tree;
 mod work_list;
 
+pub use analysed_module::AnalysedModule;
+pub use analysed_value::AnalysedValue;
 pub use dominators::Dominators;
+pub use flow::Flow;
 pub use graph::Edges;
 pub use laws::{
     all_are_available, available_by_dominance, available_is_passed, greatest_is_marked,
     marks_hold_from_entry, marks_hold_on_paths, one_greatest,
 };
-pub use marked_value::MarkedValue;
 pub use predecessors::{preds, push_targets};
 pub use reach::reachable;
 pub use solution::greatest;

@@ -1,9 +1,8 @@
 -- Modules whose functions and variables are formed, and whose names are each there once; and the sound ones.
-use Rattle.std.specs.Prelude.{◌≡◌, ℕ, ◌<◌, Bool, true, List, [], ◌∷◌, ◌++◌, map, length, slice_get, All, Contains, Option, Some, None, ◌^◌}
+use Rattle.std.specs.Prelude.{◌≡◌, ℕ, ◌<◌, List, [], ◌∷◌, ◌++◌, map, length, slice_get, All, Contains, Option, Some, None, ◌^◌}
 use Rattle.std.specs.List.{AllZip}
 use Rattle.ir_tree.specs.Initials.{Initial, plain, zeros, bytes, elements, members, Initials, no_initials, initial}
 use Rattle.ir_tree.specs.Fits.{FitsShape}
-use Rattle.ir_tree.specs.Flow.{AllReached}
 use Rattle.ir_tree.specs.Formed.{Distinct, Formed, IsWidth, IsReg, IsShape, IsAlignment}
 use Rattle.ir_tree.specs.Items.{Item, items, operands}
 use Rattle.ir_tree.specs.Rules.{Sound, Breaks}
@@ -104,16 +103,6 @@ GlobalSound (global.Function f) = Sound f
 pub record IsVerified (m : Module) : Type 0 where
   pub whole : Whole m.globals
   pub sound : All GlobalSound m.globals
-
--- ---- control flow
-
-abbrev pub GlobalReached : GlobalValue → Type 0
-GlobalReached (global.Variable v) = Unit {0}
-GlobalReached (global.Function f) = AllReached f
-
--- of each global that is marked all blocks are reached
-abbrev pub AreReached : List GlobalValue → List Bool → Type 0
-AreReached gs marks = (k : ℕ) (g : GlobalValue) → slice_get gs k ≡ Some g → slice_get marks k ≡ Some true → GlobalReached g
 
 -- ---- faults
 

@@ -1,13 +1,15 @@
 -- Going over the globals of a module, one after another.
-use Rattle.std.proofs.Common.{◌≡◌, ℕ, zero, suc, ◌+◌, ◌<◌, Bool, true, List, [], ◌∷◌, ◌++◌, refl, sym, ap, subst, ◌∙◌, arith, inl, inr, ◌⊎◌}
-use Rattle.std.specs.Prelude.{slice_get, length, All, MatchOption, Option, Some, None}
+use Rattle.std.proofs.Common.{◌≡◌, ℕ, zero, suc, ◌+◌, ◌<◌, List, [], ◌∷◌, ◌++◌, refl, sym, ap, subst, ◌∙◌, arith, inl, inr, ◌⊎◌}
+use Rattle.std.specs.Prelude.{slice_get, length, All, IfSome, MatchOption, Option, Some, None}
 use Rattle.std.specs.List.{AllZip}
 use Rattle.std.proofs.lemmas.Bool.{cases_lt}
 use Rattle.ir_tree.specs.declared.function.Function.{Function}
 use Rattle.ir_tree.specs.declared.function.Variable.{Variable}
 use Rattle.ir_tree.specs.declared.module.GlobalValue.{GlobalValue}
 use Rattle.ir_tree.specs.declared.module.GlobalValue.TheVariants as global
-use Rattle.ir_tree.specs.Wholes.{AreReached, GlobalReached, GlobalSound, GlobalBreaks}
+use Rattle.ir_flow.specs.OfFunction.{AreFlows, IsValueFlow}
+use Rattle.ir_flow.specs.declared.flow.Flow.{Flow}
+use Rattle.ir_tree.specs.Wholes.{GlobalSound, GlobalBreaks}
 use Rattle.ir_tree.specs.Fits.{FitsShape}
 use Rattle.ir_tree.specs.declared.rule.Rule.{Rule}
 use Rattle.ir_tree.specs.declared.rule.Rule.TheVariants.{TypeMismatch}
@@ -105,23 +107,23 @@ past_other v ls line k old new on never p = record {
     some_rule : (r : Rule) → ◌≡◌ {A = Option Rule} (Some TypeMismatch) (Some r) → r ≡ TypeMismatch
     some_rule r e = cc
 
--- ---- marks of what is reached
+-- ---- control flow, global by global
 
--- a mark among these and one more is one of these, or the last one
-marked_at : (marks : List Bool) (m : Bool) (k : ℕ) → slice_get (marks ++ m ∷ []) k ≡ Some true → (slice_get marks k ≡ Some true) ⊎ ((k ≡ length marks) × (m ≡ true))
-marked_at [] m zero e = inr (refl, some_is m true e)
-marked_at [] m (suc k) e = absurd (cc e)
-marked_at (x ∷ marks) m zero e = inl e
-marked_at (x ∷ marks) m (suc k) e = elim (marked_at marks m k e) [ inl a ↦ inl a | inr p ↦ inr (ap suc p.0, p.1) ]
+-- what stands among these and one more is one of these, or the last one
+pushed_at : {A : Type 0} (items : List A) (last : A) (k : ℕ) (x : A) → slice_get (items ++ last ∷ []) k ≡ Some x → (slice_get items k ≡ Some x) ⊎ ((k ≡ length items) × (last ≡ x))
+pushed_at [] last zero x e = inr (refl, some_is last x e)
+pushed_at [] last (suc k) x e = absurd (cc e)
+pushed_at (i ∷ items) last zero x e = inl e
+pushed_at (i ∷ items) last (suc k) x e = elim (pushed_at items last k x e) [ inl a ↦ inl a | inr p ↦ inr (ap suc p.0, p.1) ]
 
-pub counted : (marks : List Bool) (m : Bool) → length (marks ++ m ∷ []) ≡ suc (length marks)
-counted [] m = refl
-counted (x ∷ marks) m = ap suc (counted marks m)
+pub counted : (flows : List (Option Flow)) (last : Option Flow) → length (flows ++ last ∷ []) ≡ suc (length flows)
+counted [] last = refl
+counted (x ∷ flows) last = ap suc (counted flows last)
 
-pub mark_pushed : (gs : List GlobalValue) (marks : List Bool) (m : Bool) (g : GlobalValue) → AreReached gs marks → slice_get gs (length marks) ≡ Some g → (m ≡ true → GlobalReached g) → AreReached gs (marks ++ m ∷ [])
-mark_pushed gs marks m g before at now k h got marked = elim (marked_at marks m k marked) [
-  | inl old ↦ before k h got old
-  | inr last ↦ subst GlobalReached (some_is g h (sym at ∙ ap (slice_get gs) (sym last.0) ∙ got)) (now last.1)
+pub flow_pushed : (gs : List GlobalValue) (flows : List (Option Flow)) (last : Option Flow) (g : GlobalValue) → AreFlows gs flows → slice_get gs (length flows) ≡ Some g → IfSome last (IsValueFlow g) → AreFlows gs (flows ++ last ∷ [])
+flow_pushed gs flows last g before at now k h flow got here = elim (pushed_at flows last k (Some flow) here) [
+  | inl old ↦ before k h flow got old
+  | inr new ↦ subst (λ (h : GlobalValue). IsValueFlow h flow) (some_is g h (sym at ∙ ap (slice_get gs) (sym new.0) ∙ got)) (subst (λ (o : Option Flow). IfSome o (IsValueFlow g)) new.1 now)
 ]
 
 -- ---- what was found over all globals

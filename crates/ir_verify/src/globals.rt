@@ -1,9 +1,9 @@
 //! The globals of a module, one after another.
-ghost use Rattle.std.specs.Prelude.{◌≡◌, ℕ, ◌<◌, ◌↔◌, true, length, IfOk, IsTrue, All, MatchOption};
+ghost use Rattle.std.specs.Prelude.{◌≡◌, ℕ, ◌<◌, ◌↔◌, length, IfOk, IfSome, IsTrue, All, MatchOption};
 ghost use Rattle.std.specs.List.{AllZip};
-ghost use Rattle.ir_tree.specs.Wholes.{AreReached, GlobalFormed, GlobalReached, GlobalSound, HasLines};
+ghost use Rattle.ir_tree.specs.Wholes.{GlobalFormed, GlobalSound, HasLines};
 ghost use Rattle.ir_tree.specs.Fits.{FitsShape};
-ghost use Rattle.ir_tree.specs.Flow.{AllReached};
+ghost use Rattle.ir_flow.specs.OfFunction.{AreFlows, IsFlowOf, IsValueFlow};
 ghost use Rattle.ir_tree.specs.Formed.{Formed};
 ghost use Rattle.ir_tree.specs.Items.{items};
 ghost use Rattle.ir_tree.specs.declared.module.GlobalValue.TheVariants as global;
@@ -13,7 +13,8 @@ ghost use Rattle.ir_verify.specs.Orders.{IsPast};
 use crate::blocks::function_fault;
 use crate::fault::{VerifyFault, noted};
 use crate::initial::init_fits;
-use crate::known::{all_reached, learned};
+use crate::known::learned;
+use ir_flow::Flow;
 use ir_tree::{Function, GlobalValue, Parsed, Rows, Rule, Variable};
 use std::alloc::{AllocError, Global};
 
@@ -44,96 +45,88 @@ fn variable_fault(
     Ok(noted(found, None, lines[0], Some(Rule::TypeMismatch)))
 }
 
-/// The first fault of a function and of what was found before, and whether all its blocks are reached.
+/// The first fault of a function and of what was found before, and the function's control flow.
 ///
 /// Beside want of memory, a function of `2^32` blocks or more is refused as too large for it. Time is near linear in the function
 /// where control flow is reducible, memory linear.
-fn function_fault_and_reach(
+fn function_fault_and_flow(
     alloc: Global,
     function: &Function,
     lines: &[u32],
     number: u32,
     found: Option<VerifyFault>,
-) -> Result<(Option<VerifyFault>, bool), AllocError>
+) -> Result<(Option<VerifyFault>, Flow), AllocError>
     requires formed { Formed function.now }
     requires lined { length lines.now ≡ length (items function.now) }
     ensures fault { IfOk result (λ r. IsPast function.now lines.now number found r.0) }
-    ensures reached { IfOk result (λ r. r.1 ≡ true → AllReached function.now) }
+    ensures flow { IfOk result (λ r. IsFlowOf function.now r.1) }
 {
     let known = learned(alloc, function)?;
-    let reached = all_reached(&known.dominators);
     let fault = function_fault(alloc, function, &known, lines, number, found)?;
-    Ok((fault, reached))
+    Ok((fault, known.into_flow()))
 }
 
-/// The first fault of a global and of what was found before, and whether all its blocks are reached.
+/// The first fault of a global and of what was found before, and the global's control flow if it is a function.
 fn global_fault(
     alloc: Global,
     global: &GlobalValue,
     lines: &[u32],
     number: u32,
     found: Option<VerifyFault>,
-) -> Result<(Option<VerifyFault>, bool), AllocError>
+) -> Result<(Option<VerifyFault>, Option<Flow>), AllocError>
     requires formed { GlobalFormed global.now }
     requires lined { HasLines global.now lines.now }
     ensures fault { IfOk result (λ r. GlobalPast global.now lines.now number found r.0) }
-    ensures reached { IfOk result (λ r. r.1 ≡ true → GlobalReached global.now) }
+    ensures flow { IfOk result (λ r. IfSome r.1 (IsValueFlow global.now)) }
 {
     match global {
         GlobalValue::Variable(variable) => {
             let fault = variable_fault(alloc, variable, lines, found)?;
-            Ok((fault, false))
+            Ok((fault, None))
         }
         GlobalValue::Function(function) => {
-            function_fault_and_reach(alloc, function, lines, number, found)
+            let (fault, flow) = function_fault_and_flow(alloc, function, lines, number, found)?;
+            Ok((fault, Some(flow)))
         }
     }
 }
 
-/// The first fault of these globals, and a mark for each of which all blocks are reached.
+/// The first fault of these globals, and of each the control flow if it is a function.
 fn globals_fault(
     alloc: Global,
     globals: &[GlobalValue],
     lines: &[Rows<u32>],
-) -> Result<(Option<VerifyFault>, Rows<bool>), AllocError>
+) -> Result<(Option<VerifyFault>, Rows<Option<Flow>>), AllocError>
     requires formed { All GlobalFormed globals.now }
     requires lined { AllZip HasLines globals.now lines.now }
     ensures fault { IfOk result (λ r. IsFirst globals.now lines.now (length globals.now) r.0) }
-    ensures reached { IfOk result (λ r. AreReached globals.now r.1) }
+    ensures flows { IfOk result (λ r. AreFlows globals.now r.1) }
 {
     if globals.len() > u32::MAX as usize {
         return Err(AllocError);
     }
     let mut best = None;
-    let mut marks = Rows::new(alloc);
+    let mut flows = Rows::new(alloc);
     for number in 0..globals.len() {
         let on = lines[number].as_slice();
-        let (fault, reached) = global_fault(alloc, &globals[number], on, number as u32, best)?;
-        marks.push(reached)?;
+        let (fault, flow) = global_fault(alloc, &globals[number], on, number as u32, best)?;
+        flows.push(flow)?;
         best = fault;
     }
-    Ok((best, marks))
-}
-
-/// The fault of a module, as [`module_fault`] tells it, and a mark for each global of which all blocks are reached.
-pub(crate) fn module_fault_and_reach(
-    alloc: Global,
-    parsed: &Parsed,
-) -> Result<(Option<VerifyFault>, Rows<bool>), AllocError>
-    ensures fault { IfOk result (λ r. MatchOption r.0 (All GlobalSound parsed.now.0.globals) (IsLeastFault parsed.now.0.globals parsed.now.1)) }
-    ensures reached { IfOk result (λ r. AreReached parsed.now.0.globals r.1) }
-{
-    globals_fault(alloc, parsed.module().globals.as_slice(), parsed.lines())
+    Ok((best, flows))
 }
 
 /// The fault of a module: on the least line, and there of the least rule; none exactly where every function is sound and every
-/// initialiser fits its shape.
+/// initialiser fits its shape. With it goes the control flow of each function.
 ///
 /// Beside want of memory, a module of `2^32` globals or more, or with a function of `2^32` blocks or more, is refused as too large for
-/// it. Time is near linear in the module where control flow is reducible, memory linear in its largest function.
-pub fn module_fault(alloc: Global, parsed: &Parsed) -> Result<Option<VerifyFault>, AllocError>
-    ensures { IfOk result (λ fault. MatchOption fault (All GlobalSound parsed.now.0.globals) (IsLeastFault parsed.now.0.globals parsed.now.1)) }
+/// it. Time is near linear in the module where control flow is reducible, memory linear in its largest function and its edges.
+pub(crate) fn module_fault_and_flow(
+    alloc: Global,
+    parsed: &Parsed,
+) -> Result<(Option<VerifyFault>, Rows<Option<Flow>>), AllocError>
+    ensures fault { IfOk result (λ r. MatchOption r.0 (All GlobalSound parsed.now.0.globals) (IsLeastFault parsed.now.0.globals parsed.now.1)) }
+    ensures flows { IfOk result (λ r. AreFlows parsed.now.0.globals r.1) }
 {
-    let (fault, _marks) = module_fault_and_reach(alloc, parsed)?;
-    Ok(fault)
+    globals_fault(alloc, parsed.module().globals.as_slice(), parsed.lines())
 }

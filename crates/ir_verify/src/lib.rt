@@ -7,9 +7,9 @@
 //! fault of the least line, and on one line of the least rule; [`init_fits`] says whether an initialiser fits a shape.
 //! Below stand `ir_tree`, and the edges and dominators of `ir_flow`.
 //!
-//! **Promise.** [`verify`] answers with the sound module, or with its least fault ([`module_fault`], `specs/Modules`):
+//! **Promise.** [`verify`] answers with the sound module, or with its least fault (`specs/Modules`):
 //! no fault is told exactly where each function keeps all eight rules (`specs/Rules` of `ir_tree`) and each initialiser
-//! fits. With the module goes a mark for each function of which all blocks are reached, as its dominators tell.
+//! fits. With the module goes the control flow of each function: its edges, and the blocks that are reached.
 //!
 //! **Cost.** Tables go by the numbers of locals and blocks; a phi is checked in the time of sorting its entries, a
 //! switch in that of its cases, any other item in that of its operands.
@@ -38,7 +38,6 @@ mod verifier;
 pub use blocks::function_fault;
 pub use definitions::{Definition, Home};
 pub use fault::{VerifyError, VerifyFault, noted, rule_number};
-pub use globals::module_fault;
 pub use initial::init_fits;
 pub use items::{end_broken, line_broken, phi_broken};
 pub use known::{Known, learned};

@@ -8,6 +8,7 @@ mod Compiled
 mod Known
 mod LiveLinkable
 pub mod Apart
+mod Flowing
 pub mod Refusals
 pub mod Own
 pub mod Zipping

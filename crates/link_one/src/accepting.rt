@@ -3,8 +3,9 @@ ghost use Rattle.std.specs.Prelude.{IfErr, IfOk};
 ghost use Rattle.ir_tree.specs.Failures.{IfFault};
 ghost use Rattle.link_one.specs.Accepted.{Accepts, Refuses};
 
+use ir_flow::AnalysedModule;
 use ir_parse::{ReadError, parse};
-use ir_tree::{Failure, Verified};
+use ir_tree::Failure;
 use ir_verify::{VerifyError, verify};
 use lto_fault::RefusalKind;
 use std::alloc::Global;
@@ -19,11 +20,11 @@ pub struct Unsound {
 /// Why a file isn't accepted.
 pub type LinkError = Failure<Unsound>;
 
-/// The sound module that the bytes are read as.
+/// The sound module that the bytes are read as, with what verification found of its control flow.
 ///
 /// Refused exactly where the bytes are read as no sound module within the limits, with the line and the kind of the first
 /// fault. Beside it memory can be what is lacking.
-pub fn accepted(alloc: Global, bytes: &[u8]) -> Result<Verified, LinkError>
+pub fn accepted(alloc: Global, bytes: &[u8]) -> Result<AnalysedModule, LinkError>
     ensures found { IfOk result (λ m. Accepts bytes.now m) }
     ensures refused { IfErr result (λ e. IfFault e (λ why. Refuses bytes.now why.line why.kind)) }
 {

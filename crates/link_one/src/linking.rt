@@ -21,7 +21,8 @@ use crate::pool::Pool;
 use crate::prepare::prepare;
 use crate::task_laws::tasks_are_verified;
 use cache_slot::{CachePass, Setting, SharedCache};
-use ir_tree::{Text, Verified};
+use ir_flow::AnalysedModule;
+use ir_tree::Text;
 use lto_fault::Refusal;
 use lto_outside::{CacheDisk, Gate};
 use std::alloc::Global;
@@ -29,11 +30,11 @@ use std::sync::Wait;
 use std::thread::Threads;
 
 /// That modules are sound, each as its type says.
-fn all_verified(modules: &[Verified])
+fn all_verified(modules: &[AnalysedModule])
     ensures { All IsVerified modules.now }
 {
     for verified in modules {
-        verified.module();
+        verified.verified().module();
     }
 }
 
@@ -57,7 +58,7 @@ pub fn link<
     jobs: u32,
     files: &[Text],
     suffixes: &[Text],
-    modules: Vec<Verified>,
+    modules: Vec<AnalysedModule>,
     exports: &[Text],
     import_limit: u32,
     inline_limit: u32,
@@ -84,8 +85,7 @@ pub fn link<
     tasks_are_verified();
     units_are_linked();
     all_verified(&modules);
-    let prepared = prepare(alloc, files, suffixes, &modules, exports, import_limit)?;
-    drop(modules);
+    let prepared = prepare(alloc, files, suffixes, modules, exports, import_limit)?;
     let pool = Pool {
         rt,
         jobs,

@@ -8,7 +8,7 @@ ghost use Rattle.link_one.specs.Units.{IsLinkedPiece};
 
 use back_end::{Bodies, compile};
 use emit::Exported;
-use ir_flow::MarkedValue;
+use ir_flow::AnalysedValue;
 use ir_tree::{Duplicate, GlobalValue};
 use lto_task::{Piece, piece_of};
 use std::alloc::{AllocError, Global};
@@ -17,7 +17,7 @@ use std::alloc::{AllocError, Global};
 fn linked_global(
     alloc: Global,
     bodies: &Bodies<'_>,
-    global: &MarkedValue,
+    global: &AnalysedValue,
 ) -> Result<GlobalValue, AllocError>
     requires sound { GlobalSound global.now }
     requires bodies { AreSound (bodies_in bodies.now) }
@@ -29,7 +29,7 @@ fn linked_global(
             Ok(GlobalValue::Variable(variable))
         }
         GlobalValue::Function(function) => {
-            let function = compile(alloc, bodies, function, global.is_reached())?;
+            let function = compile(alloc, bodies, function, global.flow())?;
             Ok(GlobalValue::Function(function))
         }
     }
@@ -40,7 +40,7 @@ pub(crate) fn linked_piece(
     alloc: Global,
     bodies: &Bodies<'_>,
     exported: &Exported<'_>,
-    global: &MarkedValue,
+    global: &AnalysedValue,
 ) -> Result<Piece, AllocError>
     requires sound { GlobalSound global.now }
     requires bodies { AreSound (bodies_in bodies.now) }

@@ -1,6 +1,7 @@
 //! What stays of the modules of a link once all is decided of them.
 ghost use Rattle.std.specs.Prelude.{◌≡◌, ◌≢◌, Err, IfErr, IfOk, Ok, length};
 ghost use Rattle.lto_fault.specs.declared.refusal.Refusal.TheVariants.{NoMemory};
+ghost use Rattle.ir_flow.specs.OfFunction.{AreModuleFlows};
 ghost use Rattle.symbol_resolve.specs.Resolved.{symbols};
 ghost use Rattle.combined_index.specs.Promotions.{ArePromoted};
 ghost use Rattle.thin_link.specs.Views.{rows};
@@ -12,7 +13,7 @@ ghost use Rattle.link_one.specs.Refusing.{IsLeastTaken, IsUnlinked};
 use crate::naming::named;
 use crate::target::given_text;
 use combined_index::{Index, Live, promoted};
-use ir_flow::MarkedValue;
+use ir_flow::{AnalysedModule, AnalysedValue, Flow};
 use ir_print::print;
 use ir_tree::{Module, Rows, TargetLine, Text, Verified};
 use lto_fault::Refusal;
@@ -32,7 +33,7 @@ pub(crate) struct Prepared {
     /// For each module its locals to which other modules refer.
     pub(crate) promoted: Vec<Vec<u32>>,
     /// For each module its live definitions, under final names.
-    pub(crate) parts: Vec<Rows<MarkedValue>>,
+    pub(crate) parts: Vec<Rows<AnalysedValue>>,
     /// The target lines of the linked module.
     pub(crate) header: Text,
 }
@@ -41,7 +42,7 @@ pub(crate) struct Prepared {
 #[derive(Drop)]
 struct Contents {
     promoted: Vec<Vec<u32>>,
-    parts: Vec<Rows<MarkedValue>>,
+    parts: Vec<Rows<AnalysedValue>>,
     header: Text,
 }
 
@@ -66,32 +67,43 @@ fn header(alloc: Global, modules: &[Verified]) -> Result<Text, AllocError>
 fn live_parts(
     alloc: Global,
     modules: &[Verified],
+    flows: Vec<Rows<Option<Flow>>>,
     decided: &ThinLink<'_>,
     suffixes: &[Text],
-) -> Result<Vec<Rows<MarkedValue>>, AllocError>
+) -> Result<Vec<Rows<AnalysedValue>>, AllocError>
     requires marks { length decided.now.live ≡ length decided.now.index.symbols }
     requires resolved { decided.now.resolution ≡ symbols modules.now }
+    requires flows { AreModuleFlows modules.now flows.items }
     ensures { IfOk result (λ all. all.items ≡ parts modules.now decided.now.index.symbols decided.now.live suffixes.now) }
 {
     let marked = LiveSymbols::of(alloc, decided.index.symbols(), &decided.live)?;
-    parts(alloc, modules, &decided.resolution, &marked, suffixes)
+    parts(
+        alloc,
+        modules,
+        flows,
+        &decided.resolution,
+        &marked,
+        suffixes,
+    )
 }
 
 /// What is made of these modules by what was decided of them.
 fn contents_of(
     alloc: Global,
     modules: &[Verified],
+    flows: Vec<Rows<Option<Flow>>>,
     decided: &ThinLink<'_>,
     suffixes: &[Text],
 ) -> Result<Contents, AllocError>
     requires marks { length decided.now.live ≡ length decided.now.index.symbols }
     requires resolved { decided.now.resolution ≡ symbols modules.now }
+    requires flows { AreModuleFlows modules.now flows.items }
     ensures promoted { IfOk result (λ m. ArePromoted decided.now.index (rows decided.now.imports.items) (rows m.promoted.items)) }
     ensures parts { IfOk result (λ m. m.parts.items ≡ parts modules.now decided.now.index.symbols decided.now.live suffixes.now) }
     ensures header { IfOk result (λ m. m.header ≡ header_of modules.now) }
 {
     let header = header(alloc, modules)?;
-    let parts = live_parts(alloc, modules, decided, suffixes)?;
+    let parts = live_parts(alloc, modules, flows, decided, suffixes)?;
     let promoted = promoted(alloc, &decided.index, &decided.imports)?;
     Ok(Contents {
         promoted,
@@ -104,12 +116,14 @@ fn contents_of(
 fn named_contents(
     alloc: Global,
     modules: &[Verified],
+    flows: Vec<Rows<Option<Flow>>>,
     decided: &ThinLink<'_>,
     suffixes: &[Text],
 ) -> Result<Contents, Refusal>
     requires marks { length decided.now.live ≡ length decided.now.index.symbols }
     requires suffixes { length suffixes.now ≡ length decided.now.index.modules }
     requires resolved { decided.now.resolution ≡ symbols modules.now }
+    requires flows { AreModuleFlows modules.now flows.items }
     ensures named { IfOk result (λ _. NoneTaken (final_names suffixes.now decided.now.index.symbols decided.now.live)) }
     ensures promoted { IfOk result (λ m. ArePromoted decided.now.index (rows decided.now.imports.items) (rows m.promoted.items)) }
     ensures parts { IfOk result (λ m. m.parts.items ≡ parts modules.now decided.now.index.symbols decided.now.live suffixes.now) }
@@ -117,7 +131,7 @@ fn named_contents(
     ensures taken { IfErr result (λ why. why ≢ NoMemory → IsLeastTaken (final_names suffixes.now decided.now.index.symbols decided.now.live) why) }
 {
     named(alloc, decided, suffixes)?;
-    match contents_of(alloc, modules, decided, suffixes) {
+    match contents_of(alloc, modules, flows, decided, suffixes) {
         Ok(contents) => Ok(contents),
         Err(_) => Err(Refusal::NoMemory),
     }
@@ -156,21 +170,76 @@ fn kept(decided: ThinLink<'_>, contents: Contents) -> Prepared
 }
 
 /// What stays of these modules, where they can be linked, and else why they can't.
-pub(crate) fn prepare(
+fn decided_and_prepared(
     alloc: Global,
     files: &[Text],
     suffixes: &[Text],
     modules: &[Verified],
+    flows: Vec<Rows<Option<Flow>>>,
     exports: &[Text],
     import_limit: u32,
 ) -> Result<Prepared, Refusal>
     requires files { length files.now ≡ length modules.now }
     requires suffixes { length suffixes.now ≡ length modules.now }
+    requires flows { AreModuleFlows modules.now flows.items }
     ensures done { IfOk result (IsPrepared exports.now import_limit suffixes.now modules.now) }
     ensures refused { IfErr result (λ why. why ≢ NoMemory → IsUnlinked files.now exports.now import_limit suffixes.now modules.now why) }
 {
     let decided = thin_link(alloc, files, modules, exports, import_limit)?;
-    let contents = named_contents(alloc, modules, &decided, suffixes);
+    let contents = named_contents(alloc, modules, flows, &decided, suffixes);
     let (decided, contents) = beside(decided, contents)?;
     Ok(kept(decided, contents))
+}
+
+/// Modules apart from what is known of their control flow.
+#[derive(Drop)]
+struct Parted {
+    modules: Vec<Verified>,
+    flows: Vec<Rows<Option<Flow>>>,
+}
+
+/// These modules, apart from what is known of their control flow.
+fn apart(alloc: Global, modules: Vec<AnalysedModule>) -> Result<Parted, AllocError>
+    ensures modules { IfOk result (λ apart. apart.modules.items ≡ modules.items) }
+    ensures flows { IfOk result (λ apart. AreModuleFlows modules.items apart.flows.items) }
+{
+    let mut all = Vec::with_capacity(alloc, modules.len())?;
+    let mut flows = Vec::with_capacity(alloc, modules.len())?;
+    for module in modules {
+        let (verified, known) = module.into_parts();
+        all.push(verified)?;
+        flows.push(known)?;
+    }
+    Ok(Parted {
+        modules: all,
+        flows,
+    })
+}
+
+/// What stays of these modules, where they can be linked, and else why they can't.
+pub(crate) fn prepare(
+    alloc: Global,
+    files: &[Text],
+    suffixes: &[Text],
+    modules: Vec<AnalysedModule>,
+    exports: &[Text],
+    import_limit: u32,
+) -> Result<Prepared, Refusal>
+    requires files { length files.now ≡ length modules.items }
+    requires suffixes { length suffixes.now ≡ length modules.items }
+    ensures done { IfOk result (IsPrepared exports.now import_limit suffixes.now modules.items) }
+    ensures refused { IfErr result (λ why. why ≢ NoMemory → IsUnlinked files.now exports.now import_limit suffixes.now modules.items why) }
+{
+    let Ok(Parted { modules, flows }) = apart(alloc, modules) else {
+        return Err(Refusal::NoMemory);
+    };
+    decided_and_prepared(
+        alloc,
+        files,
+        suffixes,
+        &modules,
+        flows,
+        exports,
+        import_limit,
+    )
 }

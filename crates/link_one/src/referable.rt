@@ -3,7 +3,7 @@ ghost use Rattle.std.specs.Prelude.{◌≡◌, ◌++◌, ◌∷◌, [], OnOk};
 ghost use Rattle.importer.specs.Tables.{values};
 ghost use Rattle.link_one.specs.Units.{linkage_in, shown};
 
-use ir_flow::MarkedValue;
+use ir_flow::AnalysedValue;
 use ir_meaning::symbol_of;
 use ir_tree::{GlobalValue, Linkage, Rows, Text};
 use std::alloc::{AllocError, Global};
@@ -31,7 +31,7 @@ fn push_name(alloc: Global, names: &mut Rows<Text>, global: &GlobalValue) -> Res
 pub(crate) fn push_shown(
     alloc: Global,
     names: &mut Rows<Text>,
-    globals: &[&MarkedValue],
+    globals: &[&AnalysedValue],
 ) -> Result<(), AllocError>
     ensures { OnOk result (names.new ≡ names.old ++ shown (values globals.now)) }
 {

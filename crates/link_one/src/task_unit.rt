@@ -15,7 +15,7 @@ use crate::referable::{push_copies, push_shown};
 use back_end::Bodies;
 use emit::{Exported, strip};
 use importer::{copies, push_all};
-use ir_flow::MarkedValue;
+use ir_flow::AnalysedValue;
 use ir_tree::{GlobalValue, Rows, Text};
 use lto_task::{Piece, Task, TaskModule};
 use std::alloc::{AllocError, Global};
@@ -30,15 +30,21 @@ fn is_defined(global: &GlobalValue) -> bool
 }
 
 /// Adds the definitions and the declarations of a module of a task.
-fn push_module<'a>(list: &mut Vec<&'a MarkedValue>, m: &'a TaskModule<'a>) -> Result<(), AllocError>
+fn push_module<'a>(
+    list: &mut Vec<&'a AnalysedValue>,
+    m: &'a TaskModule<'a>,
+) -> Result<(), AllocError>
     ensures { OnOk result (values list.new.items ≡ values list.old.items ++ globals_of m.entry.now) }
 {
     list.extend_from_slice(&m.defined)?;
     push_all(list, m.declared.as_slice())
 }
 
-/// These values without their marks.
-fn plain<'a>(alloc: Global, globals: &[&'a MarkedValue]) -> Result<Vec<&'a GlobalValue>, AllocError>
+/// These values alone.
+fn plain<'a>(
+    alloc: Global,
+    globals: &[&'a AnalysedValue],
+) -> Result<Vec<&'a GlobalValue>, AllocError>
     ensures { IfOk result (λ list. values list.items ≡ values globals.now) }
 {
     let mut list = Vec::new(alloc);
@@ -61,8 +67,8 @@ fn bodies_of<'a>(alloc: Global, task: &'a Task<'a>) -> Result<Bodies<'a>, AllocE
 
 /// Adds a value, where it is a definition.
 fn push_defined<'a>(
-    list: &mut Vec<&'a MarkedValue>,
-    global: &'a MarkedValue,
+    list: &mut Vec<&'a AnalysedValue>,
+    global: &'a AnalysedValue,
 ) -> Result<(), AllocError>
     ensures { OnOk result (values list.new.items ≡ values list.old.items ++ (if is_defined global.entry.now then global.entry.now ∷ [] else [])) }
 {
@@ -75,8 +81,8 @@ fn push_defined<'a>(
 /// Those of these values that are definitions.
 fn defined_among<'a>(
     alloc: Global,
-    globals: &[&'a MarkedValue],
-) -> Result<Vec<&'a MarkedValue>, AllocError>
+    globals: &[&'a AnalysedValue],
+) -> Result<Vec<&'a AnalysedValue>, AllocError>
     ensures { IfOk result (λ list. values list.items ≡ definitions (values globals.now)) }
 {
     let mut list = Vec::new(alloc);
@@ -87,7 +93,10 @@ fn defined_among<'a>(
 }
 
 /// The definitions of a module of a task.
-fn definitions<'a>(alloc: Global, m: &'a TaskModule<'a>) -> Result<Vec<&'a MarkedValue>, AllocError>
+fn definitions<'a>(
+    alloc: Global,
+    m: &'a TaskModule<'a>,
+) -> Result<Vec<&'a AnalysedValue>, AllocError>
     ensures { IfOk result (λ list. values list.items ≡ definitions (globals_of m.entry.now)) }
 {
     let mut all = Vec::new(alloc);
@@ -99,7 +108,7 @@ fn linked_pieces(
     alloc: Global,
     bodies: &Bodies<'_>,
     exported: &Exported<'_>,
-    globals: &[&MarkedValue],
+    globals: &[&AnalysedValue],
 ) -> Result<Rows<Piece>, AllocError>
     requires sound { All GlobalSound (values globals.now) }
     requires bodies { AreSound (bodies_in bodies.now) }
@@ -116,7 +125,7 @@ fn linked_pieces(
 fn pieces_of(
     alloc: Global,
     task: &Task<'_>,
-    globals: &[&MarkedValue],
+    globals: &[&AnalysedValue],
 ) -> Result<Rows<Piece>, AllocError>
     requires sound { All GlobalSound (values globals.now) }
     requires own { All GlobalSound (task_view task.now).own }
@@ -133,7 +142,7 @@ fn pieces_of(
 fn offers_of(
     alloc: Global,
     task: &Task<'_>,
-    globals: &[&MarkedValue],
+    globals: &[&AnalysedValue],
 ) -> Result<Rows<Text>, AllocError>
     requires { values globals.now ≡ definitions (task_view task.now).own }
     ensures { IfOk result (λ names. names ≡ offered_by (task_view task.now)) }
@@ -156,7 +165,7 @@ fn sort_pieces(pieces: &mut Vec<Piece>) -> Result<(), AllocError>
 fn kept_pieces(
     alloc: Global,
     task: &Task<'_>,
-    globals: &[&MarkedValue],
+    globals: &[&AnalysedValue],
 ) -> Result<Rows<Piece>, AllocError>
     requires defined { values globals.now ≡ definitions (task_view task.now).own }
     requires own { All GlobalSound (task_view task.now).own }

@@ -1,13 +1,13 @@
 //! All that a back end reads of one module of a link.
-use ir_flow::MarkedValue;
+use ir_flow::AnalysedValue;
 use ir_tree::{Rows, Text};
 
-/// The definitions of a module of a task, and behind them declarations of what they refer to and lack. With each goes whether all
-/// its blocks are known to be reached: a task's text doesn't tell it, and what is made of the task is the same with it and without.
+/// The definitions of a module of a task, and behind them declarations of what they refer to and lack. With each goes its control
+/// flow where that is known: a task's text doesn't tell it, and what is made of the task is the same with it and without.
 #[derive(Drop)]
 pub struct TaskModule<'a> {
-    pub defined: Vec<&'a MarkedValue>,
-    pub declared: Rows<MarkedValue>,
+    pub defined: Vec<&'a AnalysedValue>,
+    pub declared: Rows<AnalysedValue>,
 }
 
 /// What a back end reads of a module, and nothing else of the link: the cache's key is its text.

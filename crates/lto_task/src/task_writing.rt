@@ -10,7 +10,7 @@ ghost use Rattle.lto_task.specs.Units.{name_line};
 use crate::making::text_of;
 use crate::task::{Task, TaskModule};
 use crate::writing::{push_name_line, push_names, push_number};
-use ir_flow::MarkedValue;
+use ir_flow::AnalysedValue;
 use ir_tree::Text;
 use std::alloc::{AllocError, Global};
 
@@ -34,14 +34,14 @@ fn push_borrowed_names(alloc: Global, out: &mut Text, names: &[&[u8]]) -> Result
     Ok(())
 }
 
-fn push_global(alloc: Global, out: &mut Text, global: &MarkedValue) -> Result<(), AllocError>
+fn push_global(alloc: Global, out: &mut Text, global: &AnalysedValue) -> Result<(), AllocError>
     ensures { OnOk result (out.new ≡ out.old ++ text_of (global_value global.now ∷ [])) }
 {
     let text = text_of(alloc, global.value())?;
     out.append(text.as_slice())
 }
 
-fn push_defined(alloc: Global, out: &mut Text, defined: &[&MarkedValue]) -> Result<(), AllocError>
+fn push_defined(alloc: Global, out: &mut Text, defined: &[&AnalysedValue]) -> Result<(), AllocError>
     ensures { OnOk result (out.new ≡ out.old ++ text_of (global_values (map (λ g. g.now) defined.now))) }
 {
     for global in defined {
@@ -50,7 +50,11 @@ fn push_defined(alloc: Global, out: &mut Text, defined: &[&MarkedValue]) -> Resu
     Ok(())
 }
 
-fn push_declared(alloc: Global, out: &mut Text, declared: &[MarkedValue]) -> Result<(), AllocError>
+fn push_declared(
+    alloc: Global,
+    out: &mut Text,
+    declared: &[AnalysedValue],
+) -> Result<(), AllocError>
     ensures { OnOk result (out.new ≡ out.old ++ text_of (global_values declared.now)) }
 {
     for global in declared {

@@ -17,7 +17,7 @@ pub mod Own
 pub mod Kept
 pub mod Tabled
 mod Scoped
-mod Reached
+mod Flows
 pub mod Runs
 pub mod Sounds
 pub mod Composed

@@ -9,7 +9,7 @@ ghost use Rattle.merge_meaning.specs.Given.{merged_in};
 ghost use Rattle.merge_meaning.specs.Merged.{declaration, merged_globals, with_host};
 
 use crate::giving::give;
-use ir_flow::MarkedValue;
+use ir_flow::AnalysedValue;
 use ir_meaning::symbol_of;
 use ir_tree::{Function, GlobalValue, Linkage, Reg, Rows, Symbol, Text, Verified};
 use std::alloc::{AllocError, Global};
@@ -20,14 +20,17 @@ fn given(
     alloc: Global,
     modules: &[Verified],
     resolution: &Resolution,
-) -> Result<Rows<MarkedValue>, AllocError>
+) -> Result<Rows<AnalysedValue>, AllocError>
     ensures rows { IfOk result (λ gs. gs ≡ merged_in resolution.now 0 modules.now) }
     ensures verified { OnOk result (All IsVerified modules.now) }
 {
     let mut rows = Rows::new(alloc);
     let mut number: u32 = 0;
     for verified in modules {
-        give(alloc, &mut rows, None, number, verified, resolution)?;
+        let unknown = Rows::new(alloc);
+        give(
+            alloc, &mut rows, None, number, verified, unknown, resolution,
+        )?;
         let Some(next) = number.checked_add(1) else {
             return Err(AllocError);
         };
@@ -36,8 +39,8 @@ fn given(
     Ok(rows)
 }
 
-/// These values without their marks.
-fn values_of(alloc: Global, marked: Rows<MarkedValue>) -> Result<Rows<GlobalValue>, AllocError>
+/// These values alone.
+fn values_of(alloc: Global, marked: Rows<AnalysedValue>) -> Result<Rows<GlobalValue>, AllocError>
     ensures { IfOk result (λ gs. gs ≡ marked) }
 {
     let mut rows = Rows::new(alloc);

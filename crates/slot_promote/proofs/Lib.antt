@@ -13,6 +13,7 @@ pub mod Planned
 pub mod Plans
 pub mod PromotedSound
 pub mod Reached
+pub mod SameGraph
 pub mod Shapes
 pub mod Slotted
 pub mod Tests

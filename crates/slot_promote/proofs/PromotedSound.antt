@@ -6,7 +6,7 @@ use Rattle.std.proofs.lemmas.List.Elements.{All-append, All-cons, All-head, All-
 use Rattle.ir_tree.specs.Flow.{Among, AvailableAt, edges, holds, line_count, successors}
 use Rattle.ir_tree.specs.Forms.{Form}
 use Rattle.ir_tree.specs.Formed.{ArgumentFormed, Distinct, InstrFormed, IsBlock, IsReg, ItemFormed, ResultFormed}
-use Rattle.ir_tree.specs.Items.{Item, phi_item, line_item, end_item, block_items, end_reads, items, items_from, lines_from, phi_reads, reads, taken, taken_as, typed}
+use Rattle.ir_tree.specs.Items.{Item, phi_item, line_item, end_item, block_items, end_reads, items, items_from, lines_from, phi_reads, reads, taken_as, typed}
 use Rattle.ir_tree.specs.Rules.{EndTypes, HasType, IsNoPhi, IsThere, IsThereAtEnd, Keeps, LineCasts, LineFollows, LineTypes, OnEdges, Sound, place}
 use Rattle.ir_tree.specs.declared.block.Block.{Block}
 use Rattle.ir_tree.specs.declared.block.Terminator.{Terminator}

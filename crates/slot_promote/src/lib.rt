@@ -12,7 +12,8 @@
 //! it. Of a sound function the result is better in every program, and sound.
 //!
 //! **Cost.** Linear in the function's uses and in what is made: slots that are promoted times predecessor edges. A
-//! slot's value costs one look-up in a table of what its block stores.
+//! slot's value costs one look-up in a table of what its block stores. [`promote`] finds the edges once, and who calls
+//! [`into_promoted`] has them.
 //!
 //! **Not shown.** That the result is shorter or faster.
 #![tactic(auto)]

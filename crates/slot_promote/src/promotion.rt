@@ -1,8 +1,9 @@
 //! Stack slots promoted to registers.
-ghost use Rattle.std.specs.Prelude.{◌≡◌, ℕ, ◌+◌, ◌<◌, ◌++◌, length, Some, IfOk};
+ghost use Rattle.std.specs.Prelude.{◌≡◌, ℕ, ◌+◌, ◌<◌, ◌++◌, Bool, List, length, Some, IfOk};
 ghost use Rattle.ir_tree.specs.Flow.{Among};
 ghost use Rattle.ir_tree.specs.Rules.{Sound};
 ghost use Rattle.ir_flow.specs.Graph.{row};
+ghost use Rattle.ir_flow.specs.OfFunction.{IsGraphOf, IsReach};
 ghost use Rattle.ir_meaning.specs.Near.{BetterThan};
 ghost use Rattle.ir_meaning.specs.Program.{Program};
 ghost use Rattle.ir_meaning.specs.Formed.{IsFormed};
@@ -180,14 +181,19 @@ fn all_blocks(
 }
 
 /// The blocks of the function with these, which are its slots, as values.
-fn promoted_blocks(alloc: Global, slots: &Slots, f: &Function) -> Result<Rows<Block>, AllocError>
+fn promoted_blocks(
+    alloc: Global,
+    slots: &Slots,
+    edges: &Edges,
+    f: &Function,
+) -> Result<Rows<Block>, AllocError>
+    requires graph { IsGraphOf f.now edges.now }
     requires list { slots.now.list.items ≡ promoted_slots f.now }
     requires places { (x : ℕ) → place_in slots.now x ≡ placed 0 (promoted_slots f.now) x }
     ensures { IfOk result (λ blocks. blocks ≡ (promoted_function f.now).blocks) }
 {
-    let edges = preds(alloc, f)?;
     let next = next_number(f);
-    let blocks = all_blocks(alloc, slots, &edges, next, f.blocks.as_slice())?;
+    let blocks = all_blocks(alloc, slots, edges, next, f.blocks.as_slice())?;
     Ok(blocks)
 }
 
@@ -209,12 +215,18 @@ fn with_blocks(alloc: Global, f: &Function, blocks: Rows<Block>) -> Result<Funct
 }
 
 /// The function with these, which are its slots, as values.
-fn promoted(alloc: Global, slots: &Slots, f: &Function) -> Result<Function, AllocError>
+fn promoted(
+    alloc: Global,
+    slots: &Slots,
+    edges: &Edges,
+    f: &Function,
+) -> Result<Function, AllocError>
+    requires graph { IsGraphOf f.now edges.now }
     requires list { slots.now.list.items ≡ promoted_slots f.now }
     requires places { (x : ℕ) → place_in slots.now x ≡ placed 0 (promoted_slots f.now) x }
     ensures { IfOk result (λ g. g ≡ promoted_function f.now) }
 {
-    let blocks = promoted_blocks(alloc, slots, f)?;
+    let blocks = promoted_blocks(alloc, slots, edges, f)?;
     let g = with_blocks(alloc, f, blocks)?;
     Ok(g)
 }
@@ -229,23 +241,28 @@ pub fn promote(alloc: Global, f: &Function) -> Result<Function, AllocError>
     ensures better { IfOk result (λ g. Sound f.now → (p : Program) → IsFormed p → BetterThan p (longest f.now.blocks + 1) g f.now) }
     ensures sound { IfOk result (λ g. Sound f.now → Sound g) }
 {
+    let edges = preds(alloc, f)?;
     let slots = Slots::of(alloc, f)?;
-    let g = promoted(alloc, &slots, f)?;
+    let g = promoted(alloc, &slots, &edges, f)?;
     Ok(g)
 }
 
-/// What [`promote`] makes of a function that is given up: the function itself where it has no slot to promote.
+/// What [`promote`] makes of a function that is given up: the function itself where it has no slot to promote. Its caller
+/// knows its predecessor edges, which are those of what is made, and so the same blocks are reached in both.
 ///
-/// Refused as [`promote`] is.
-pub fn into_promoted(alloc: Global, f: Function) -> Result<Function, AllocError>
+/// Beside want of memory, a function is refused where the number of a new phi would pass 32 bits.
+pub fn into_promoted(alloc: Global, f: Function, edges: &Edges) -> Result<Function, AllocError>
+    requires graph { IsGraphOf f edges.now }
     ensures promoted { IfOk result (λ g. g ≡ promoted_function f) }
     ensures sound { IfOk result (λ g. Sound f → Sound g) }
+    ensures graph { IfOk result (λ g. IsGraphOf g edges.now) }
+    ensures reach { IfOk result (λ g. (reached : List Bool) → IsReach f reached → IsReach g reached) }
 {
     let slots = Slots::of(alloc, &f)?;
     let count = slots.list.len();
     if count == 0 {
         return Ok(f);
     }
-    let g = promoted(alloc, &slots, &f)?;
+    let g = promoted(alloc, &slots, edges, &f)?;
     Ok(g)
 }

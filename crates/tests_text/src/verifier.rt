@@ -1,5 +1,5 @@
 //! The verifier's calls: each rule kept and broken, the line of a fault, and the order of faults; what is learned of a function; and
-//! of which functions all blocks are told to be reached.
+//! the control flow that goes with a module.
+mod flows;
 mod learning;
-mod marks;
 mod rules;

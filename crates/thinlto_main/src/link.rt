@@ -31,6 +31,7 @@ use crate::tasks::tasks_are_spelled;
 use back_end::made_is_better;
 use cache_slot::{CachePass, Setting, SharedCache};
 use emit::emission_is_one;
+use ir_flow::AnalysedModule;
 use ir_round_trip::{
     read_modules_are_numbered, tasks_with_one_text_are_one, text_order_is_numbered,
     verified_modules_are_read,
@@ -89,7 +90,7 @@ fn text<R: Threads + Wait + Sync, D: CacheDisk + Send, S: Setting + Send + Sync,
     options: &LinkOptions,
     names: &[FileName],
     given: &[Option<Text>],
-    modules: Vec<Verified>,
+    modules: Vec<AnalysedModule>,
     cache: &SharedCache<D, S>,
     pass: &mut CachePass<D, S>,
     gate: &G,

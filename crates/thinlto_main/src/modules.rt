@@ -9,6 +9,7 @@ ghost use Rattle.thinlto_main.specs.Linking.{suffixes_of};
 ghost use Rattle.thinlto_main.specs.Modules.{AreRead, FirstBad, IsBad, IsRead, bytes_of, reading, unfetched};
 
 use combined_index::suffix;
+use ir_flow::AnalysedModule;
 use ir_tree::{FaultKind, Rows, Text, Verified};
 use link_one::{LinkError, accepted};
 use lto_fault::{Refusal, RefusalKind};
@@ -38,7 +39,7 @@ pub(crate) fn refused(alloc: Global, name: &FileName, line: u64, kind: RefusalKi
 }
 
 /// The module of a file.
-fn read_one(alloc: Global, name: &FileName, bytes: &Option<Text>) -> Result<Verified, Refusal>
+fn read_one(alloc: Global, name: &FileName, bytes: &Option<Text>) -> Result<AnalysedModule, Refusal>
     requires short { IsShort bytes.now }
     ensures read { IfOk result (λ m. IsRead bytes.now m) }
     ensures because { IfErr result (Because (record never { refused = λ file line kind. (file ≡ name.now) × IsBad bytes.now line kind; memory = Unit {0} })) }
@@ -55,12 +56,12 @@ fn read_one(alloc: Global, name: &FileName, bytes: &Option<Text>) -> Result<Veri
     }
 }
 
-/// The module of each file, up to the first that isn't read.
+/// The module of each file, up to the first that isn't read, with what verification found of its control flow.
 pub(crate) fn read_all(
     alloc: Global,
     names: &[FileName],
     given: &[Option<Text>],
-) -> Result<Rows<Verified>, Refusal>
+) -> Result<Rows<AnalysedModule>, Refusal>
     requires each { length given.now ≡ length names.now }
     requires short { All IsShort given.now }
     ensures read { IfOk result (λ ms. AllZip IsRead given.now ms) }
@@ -89,6 +90,39 @@ pub(crate) fn unfetched(error: FetchError) -> Refusal
     }
 }
 
+/// These modules alone.
+fn alone(alloc: Global, modules: Rows<AnalysedModule>) -> Result<Rows<Verified>, AllocError>
+    ensures { IfOk result (λ ms. ms ≡ modules) }
+{
+    let mut all = Rows::new(alloc);
+    for module in modules.into_vec() {
+        let (verified, _flows) = module.into_parts();
+        all.push(verified)?;
+    }
+    Ok(all)
+}
+
+/// The module of each file, up to the first that isn't read.
+fn read_alone(
+    alloc: Global,
+    names: &[FileName],
+    given: &[Option<Text>],
+) -> Result<Rows<Verified>, Refusal>
+    requires each { length given.now ≡ length names.now }
+    requires short { All IsShort given.now }
+    ensures read { IfOk result (λ ms. AllZip IsRead given.now ms) }
+    ensures because { IfErr result (Because (record never { refused = FirstBad names.now given.now; memory = Unit {0} })) }
+{
+    let read = match read_all(alloc, names, given) {
+        Ok(read) => read,
+        Err(why) => return Err(why),
+    };
+    match alone(alloc, read) {
+        Ok(modules) => Ok(modules),
+        Err(_) => Err(Refusal::NoMemory),
+    }
+}
+
 /// The modules of these files: all are fetched, and then each is read.
 pub(crate) fn modules<F: Files>(
     alloc: Global,
@@ -103,7 +137,7 @@ pub(crate) fn modules<F: Files>(
         Ok(given) => given,
         Err(error) => return Err(unfetched(error)),
     };
-    read_all(alloc, names, given.as_slice())
+    read_alone(alloc, names, given.as_slice())
 }
 
 /// The suffix of each file, which stands behind the names of its module's locals.

@@ -1,5 +1,6 @@
 //! Files of module texts: the modules that they are read as, their index, and what a link of them answers.
 use combined_index::{Index, combine};
+use ir_flow::AnalysedModule;
 use ir_parse::parse;
 use ir_summary::{Summary, summarise};
 use ir_tree::{Text, Verified};
@@ -17,12 +18,18 @@ pub(crate) fn texts(alloc: Global, names: &[&[u8]]) -> Result<Vec<Text>, AllocEr
     Ok(all)
 }
 
-/// The sound module that a text is read as; none where it is read as no such module.
-pub(crate) fn read(alloc: Global, source: &str) -> Option<Verified> {
+/// The sound module that a text is read as, with its control flow; none where it is read as no such module.
+pub(crate) fn analysed(alloc: Global, source: &str) -> Option<AnalysedModule> {
     match parse(alloc, source.as_bytes()) {
         Ok(parsed) => verify(alloc, parsed).ok(),
         Err(_) => None,
     }
+}
+
+/// The sound module that a text is read as; none where it is read as no such module.
+pub(crate) fn read(alloc: Global, source: &str) -> Option<Verified> {
+    let (module, _flows) = analysed(alloc, source)?.into_parts();
+    Some(module)
 }
 
 /// Adds what there is to a list; none where there is nothing, or memory runs out.

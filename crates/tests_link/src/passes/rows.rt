@@ -1,6 +1,5 @@
 //! Rows of the tables: a module before a pass, and what the pass makes of its first function.
-ghost use Rattle.std.specs.Prelude.{◌≡◌, IfOk, IfSome, map, true};
-ghost use Rattle.ir_tree.specs.Flow.{AllReached};
+ghost use Rattle.std.specs.Prelude.{◌≡◌, IfOk, IfSome, map};
 ghost use Rattle.back_end.specs.Inlinable.{AreSound};
 ghost use Rattle.back_end.specs.Walking.{bodies_in};
 ghost use Rattle.ir_tree.specs.Rules.{Sound};
@@ -12,6 +11,7 @@ use dead_code::needed;
 use inline_site::inline_at;
 use ir_edit::renumber;
 use ir_facts::apply;
+use ir_flow::Flow;
 use ir_parse::parse;
 use ir_print::print_function;
 use ir_tree::{Duplicate, Function, GlobalValue, Text, Verified};
@@ -50,7 +50,10 @@ pub(crate) type Row = (&'static str, Pass, &'static [u8], &'static [u8]);
 /// The sound module that a text is read as; none where it is read as no such module, or memory runs out.
 pub(crate) fn read(alloc: Global, text: &[u8]) -> Option<Verified> {
     match parse(alloc, text) {
-        Ok(parsed) => verify(alloc, parsed).ok(),
+        Ok(parsed) => {
+            let (module, _flows) = verify(alloc, parsed).ok()?.into_parts();
+            Some(module)
+        }
         Err(_) => None,
     }
 }
@@ -62,21 +65,6 @@ pub(crate) fn first(module: &Verified) -> Option<&Function>
     match module.module().globals.as_slice() {
         [GlobalValue::Function(f), ..] => Some(f),
         _ => None,
-    }
-}
-
-/// The function that a module begins with, and whether all its blocks are known to be reached.
-fn first_marked(module: &Verified) -> Option<(&Function, bool)>
-    ensures sound { IfSome result (λ f. Sound f.0.now) }
-    ensures reached { IfSome result (λ f. f.1 ≡ true → AllReached f.0.now) }
-{
-    let globals = module.module().globals.as_slice();
-    if globals.len() == 0 {
-        return None;
-    }
-    match &globals[0] {
-        GlobalValue::Variable(_) => None,
-        GlobalValue::Function(f) => Some((f, module.is_reached(0))),
     }
 }
 
@@ -156,11 +144,14 @@ fn walked(alloc: Global, module: &Verified, limit: u32) -> Result<Option<Functio
     }
 }
 
-/// The first function of a module as the back end makes it.
+/// The first function of a module as the back end makes it, which is told its control flow.
 fn compiled(alloc: Global, module: &Verified, limit: u32) -> Result<Option<Function>, AllocError> {
     let bodies = bodies(alloc, module, limit)?;
-    match first_marked(module) {
-        Some((f, reached)) => Ok(Some(compile(alloc, &bodies, f, reached)?)),
+    match first(module) {
+        Some(f) => {
+            let flow = Flow::of(alloc, f)?;
+            Ok(Some(compile(alloc, &bodies, f, Some(&flow))?))
+        }
         None => Ok(None),
     }
 }

@@ -1,7 +1,7 @@
 //! Each rule kept and broken, with the line at fault, and the order of faults.
 use crate::parts::read;
 use ir_tree::{Parsed, Rule};
-use ir_verify::{VerifyError, VerifyFault, module_fault, verify};
+use ir_verify::{VerifyError, VerifyFault, verify};
 use std::alloc::{AllocError, Global};
 
 /// What a row shows, a module that begins with its function, and the line and the rule of the fault, where there is one.
@@ -424,12 +424,6 @@ fn place(fault: &VerifyFault) -> (u32, Rule) {
     }
 }
 
-/// The place of the least fault of a module.
-fn least(alloc: Global, parsed: &Parsed) -> Result<Option<(u32, Rule)>, AllocError> {
-    let fault = module_fault(alloc, parsed)?;
-    Ok(fault.as_ref().map(place))
-}
-
 /// The place of the fault that a module is refused for.
 fn refused(alloc: Global, parsed: Parsed) -> Result<Option<(u32, Rule)>, AllocError> {
     match verify(alloc, parsed) {
@@ -439,14 +433,13 @@ fn refused(alloc: Global, parsed: Parsed) -> Result<Option<(u32, Rule)>, AllocEr
     }
 }
 
-/// Whether a text is read, and its least fault, for which it is refused, is this one or none.
+/// Whether a text is read, and the fault for which it is refused is this one or none.
 fn is_so(alloc: Global, text: &[u8], wanted: Option<(u32, Rule)>) -> Result<bool, AllocError> {
     let Some(parsed) = read(alloc, text) else {
         return Ok(false);
     };
-    let least = least(alloc, &parsed)?;
     let told = refused(alloc, parsed)?;
-    Ok(least == wanted && told == wanted)
+    Ok(told == wanted)
 }
 
 #[test]

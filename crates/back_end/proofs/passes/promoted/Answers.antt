@@ -1,7 +1,7 @@
-use Rattle.std.proofs.Common.{subst, sym}
-use Rattle.ir_tree.specs.Flow.{AllReached}
-use Rattle.back_end.proofs.Reached.{promoted_reached}
 use Rattle.back_end.proofs.passes.promoted.Goals as goal
 
-pub turned-requires-clause-known : goal.turned-requires-clause-known
-turned-requires-clause-known c known = subst AllReached (sym c.in_ok-promoted.ensures.promoted) (promoted_reached c.args.f (c.requires.known known))
+pub turned-requires-clause-flow : goal.turned-requires-clause-flow
+turned-requires-clause-flow c = record {
+  graph = c.in_ok-promoted.ensures.graph;
+  reach = c.in_ok-promoted.ensures.reach c.args.flow.now.reached c.requires.flow.reach;
+}

@@ -12,3 +12,6 @@ returns c = record {
   where
     made : IsTurn c.args.f c.in_ok-g.g
     made = turn_of c.args.f c.in_ok-propagated.propagated c.in_ok-g.g c.in_ok-propagated.ensures.made c.in_ok-g.ensures.made
+
+pub turn_from_branches-requires-clause-flow : goal.turn_from_branches-requires-clause-flow
+turn_from_branches-requires-clause-flow c = record { graph = c.in_ok-propagated.ensures.graph; reach = c.in_ok-propagated.ensures.reach }

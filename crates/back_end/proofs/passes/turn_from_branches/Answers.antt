@@ -1,14 +1,14 @@
 use Rattle.std.proofs.Common.{◌∙◌, subst, sym}
 use Rattle.ir_tree.specs.declared.function.Function.{Function}
-use Rattle.ir_flow.specs.OfFunction.{IsReach}
+use Rattle.ir_flow.specs.OfFunction.{IsFlowOf}
 use Rattle.block_trim.specs.Merged.{IsMergeOf}
 use Rattle.block_trim.specs.Trimmed.{IsTrimOf}
 use Rattle.dead_code.specs.Least.{IsNeededOf}
 use Rattle.back_end.proofs.Turning.{unchanged}
 use Rattle.back_end.proofs.passes.turn_from_branches.Goals as goal
 
-pub reached_now-requires : goal.reached_now-requires
-reached_now-requires c undecided = subst (λ (g : Function). IsReach g c.args.before) (sym (c.in_ok-simplified.ensures.same undecided)) c.requires.reach
+pub turn_from_jumps-requires-clause-flow : goal.turn_from_jumps-requires-clause-flow
+turn_from_jumps-requires-clause-flow c undecided = subst (λ (g : Function). IsFlowOf g c.args.flow.now) (sym (c.in_ok-simplified.ensures.same undecided)) c.requires.flow
 
 pub returns : goal.returns
 returns c = record {

@@ -1,6 +1,11 @@
-use Rattle.std.proofs.Common.{◌∙◌, sym}
+use Rattle.std.proofs.Common.{◌∙◌, subst, sym}
+use Rattle.ir_tree.specs.declared.function.Function.{Function}
+use Rattle.ir_flow.specs.OfFunction.{IsGraphOf}
 use Rattle.back_end.proofs.Turning.{unchanged}
 use Rattle.back_end.proofs.passes.turn_from_trim.Goals as goal
+
+pub turn_from_joins-requires-clause-graph : goal.turn_from_joins-requires-clause-graph
+turn_from_joins-requires-clause-graph c uncut = subst (λ (g : Function). IsGraphOf g c.args.flow.now.edges) (sym (c.in_ok-trimmed.ensures.same uncut)) c.requires.flow.graph
 
 pub returns : goal.returns
 returns c =

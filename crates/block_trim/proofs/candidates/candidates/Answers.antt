@@ -20,7 +20,7 @@ loop-place-preserved c = λ n.
 
     edges : length c.of.result.now ≡ length (leading c.index-blocks-place.result.number 0 c.args.f.now.blocks)
     edges = ap (λ (l : List ℕ). length l)
-        (c.of.ensures ∙ c.in_ok-edges.ensures.same c.loop-place.place below
+        (c.of.ensures ∙ c.requires.graph.same c.loop-place.place below
         ∙ ap (leading_to c.args.f.now.blocks) (element_at c.args.f.now.blocks c.loop-place.place c.index-blocks-place.result below ∙ ap (λ (b : Block). Some b) (sym is)))
 
     wanted : c.is_candidate-wanted.result ≡ (nat_eq (length c.index-blocks-place.result.phis) 0 && has_one_edge c.args.f.now.blocks c.index-blocks-place.result.number)

@@ -6,7 +6,7 @@ use Rattle.ir_tree.specs.declared.function.Function.{Function}
 use Rattle.ir_facts.specs.Settled.{or_same}
 use Rattle.ir_facts.specs.Steps.{AreRounds, IsRound}
 use Rattle.ir_facts.proofs.InRounds.{last_round, no_rounds, one_more, round_sound}
-use Rattle.ir_facts.proofs.StillApart.{round_apart}
+use Rattle.ir_facts.proofs.StillApart.{round_apart, round_graph}
 use Rattle.ir_facts.proofs.rounds.+rounds.Goals as goal
 
 pub returns-then-left-eq0 : goal.returns-then-left-eq0
@@ -20,7 +20,7 @@ rounds-requires t c =
       omega arith,
       (
         round_sound f g c.requires.sound round,
-        round_apart (contains nat_eq c.args.outside.now) f g round c.requires.apart,
+        (round_graph c.args.edges.now f g round c.requires.graph, round_apart (contains nat_eq c.args.outside.now) f g round c.requires.apart),
       ),
     )
 

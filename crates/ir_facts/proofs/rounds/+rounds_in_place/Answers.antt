@@ -9,7 +9,7 @@ use Rattle.ir_facts.specs.Blocks.{with_blocks}
 use Rattle.ir_facts.specs.Steps.{AreRounds}
 use Rattle.ir_facts.proofs.InPlace.{place_last, place_round}
 use Rattle.ir_facts.proofs.InRounds.{no_rounds, one_more, round_sound}
-use Rattle.ir_facts.proofs.StillApart.{round_apart}
+use Rattle.ir_facts.proofs.StillApart.{round_apart, round_graph}
 use Rattle.ir_facts.proofs.Widths.{formed_wide}
 use Rattle.ir_facts.proofs.rounds.+rounds_in_place.Goals as goal
 
@@ -61,7 +61,10 @@ rounds_in_place-requires t c =
       omega arith,
       (
         round_sound (with_blocks c.args.f.now blocks) (with_blocks c.args.f.now new) c.requires.sound round,
-        (round_apart among (with_blocks c.args.f.now blocks) (with_blocks c.args.f.now new) round c.requires.apart, c.requires.none),
+        (
+          round_graph c.args.edges.now (with_blocks c.args.f.now blocks) (with_blocks c.args.f.now new) round c.requires.graph,
+          (round_apart among (with_blocks c.args.f.now blocks) (with_blocks c.args.f.now new) round c.requires.apart, c.requires.none),
+        ),
       ),
     )
 

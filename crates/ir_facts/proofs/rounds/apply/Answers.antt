@@ -1,7 +1,7 @@
 use Rattle.std.proofs.Common.{sym, subst}
 use Rattle.ir_tree.specs.Rules.{Sound}
 use Rattle.ir_tree.specs.declared.function.Function.{Function}
-use Rattle.ir_flow.specs.OfFunction.{IsReach}
+use Rattle.ir_flow.specs.OfFunction.{IsGraphOf, IsReach}
 use Rattle.ir_facts.specs.Steps.{IsApplied}
 use Rattle.ir_facts.proofs.InRounds.{are_better}
 use Rattle.ir_facts.proofs.rounds.apply.Goals as goal
@@ -9,7 +9,8 @@ use Rattle.ir_facts.proofs.rounds.apply.Goals as goal
 pub into_applied-requires : goal.into_applied-requires
 into_applied-requires c = record {
   sound = subst Sound (sym c.in_ok-copy.ensures) c.requires.sound;
-  reach = subst (λ (f : Function). IsReach f c.in_ok-reached.reached) (sym c.in_ok-copy.ensures) c.in_ok-reached.ensures;
+  graph = subst (λ (f : Function). IsGraphOf f c.in_ok-flow.flow.edges) (sym c.in_ok-copy.ensures) c.in_ok-flow.ensures.graph;
+  reach = subst (λ (f : Function). IsReach f c.in_ok-flow.flow.reached) (sym c.in_ok-copy.ensures) c.in_ok-flow.ensures.reach;
 }
 
 pub returns : goal.returns

@@ -36,7 +36,7 @@ returns-then-count-eq0 c =
     (step_everywhere f c.requires.sound among c.requires.apart (sym some ∙ empty_list c.in_ok-some.some.items (sym c.in_ok-some.some.ok.0 ∙ sym c.len-count.ensures ∙ c.if-count-eq0.true)))
 
 pub is_clear-requires : goal.is_clear-requires
-is_clear-requires c = record { sized = formed_wide c.args.f.now c.requires.sound.formed }
+is_clear-requires c = record { sized = formed_wide c.args.f.now c.requires.sound.formed; graph = c.requires.graph }
 
 pub returns-then-clear : goal.returns-then-clear
 returns-then-clear c =

@@ -11,7 +11,7 @@ use Rattle.ir_facts.proofs.Parting.{step_at}
 use Rattle.ir_facts.proofs.rounds.replaced_at_points.Goals as goal
 
 pub facts_of-requires : goal.facts_of-requires
-facts_of-requires c = record { formed = c.requires.sound.formed }
+facts_of-requires c = record { formed = c.requires.sound.formed; graph = c.requires.graph }
 
 pub returns : goal.returns
 returns c =

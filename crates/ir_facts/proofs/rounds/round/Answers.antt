@@ -5,12 +5,13 @@ use Rattle.std.proofs.lemmas.Result.{IfOk-at_ok, IfOk-weaker}
 use Rattle.std.specs.HashSet.{contains}
 use Rattle.ir_tree.specs.Rules.{Sound}
 use Rattle.ir_tree.specs.declared.function.Function.{Function}
+use Rattle.ir_flow.specs.OfFunction.{IsGraphOf}
 use Rattle.fact_sources.specs.Apart.{IsApart}
 use Rattle.ir_facts.specs.Settled.{settled}
 use Rattle.ir_facts.specs.Settled.{or_same}
 use Rattle.ir_facts.specs.Steps.{IsRound, IsStep, candidate_of}
 use Rattle.ir_facts.proofs.SettledSound.{settled_sound}
-use Rattle.ir_facts.proofs.Settling.{apart_settled}
+use Rattle.ir_facts.proofs.Settling.{apart_settled, graph_settled}
 use Rattle.ir_facts.proofs.Widths.{formed_wide}
 use Rattle.ir_facts.proofs.rounds.round.Goals as goal
 
@@ -35,6 +36,11 @@ settled-requires c = record { sized = formed_wide c.args.f.now c.requires.sound.
 pub forwarded-second-requires-clause-sound : goal.forwarded-second-requires-clause-sound
 forwarded-second-requires-clause-sound c =
     subst Sound (sym (answered c.args.f.now c.in_ok-first.first (Some c.in-Some.h) c.in-Some.is c.in_ok-first.ensures)) (settled_sound c.args.f.now c.requires.sound)
+
+pub forwarded-second-requires-clause-graph : goal.forwarded-second-requires-clause-graph
+forwarded-second-requires-clause-graph c =
+    subst (λ (h : Function). IsGraphOf h c.args.edges.now) (sym (answered c.args.f.now c.in_ok-first.first (Some c.in-Some.h) c.in-Some.is c.in_ok-first.ensures))
+    (graph_settled c.args.f.now c.args.edges.now c.requires.graph)
 
 pub forwarded-second-requires-clause-apart : goal.forwarded-second-requires-clause-apart
 forwarded-second-requires-clause-apart c =

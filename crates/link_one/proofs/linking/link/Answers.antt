@@ -20,18 +20,16 @@ returns-in_err-prepared-clause-refused g c =
     let p = err_from_is_err_and c.from_residual.result c.from_residual.ensures.1 in
     let same : c.from_residual.result ≡ Err e = p.1 ∙ ap (λ (x : Refusal). Err x) p.2 in
     subst (λ r. IfErr r (λ why. why ≢ NoMemory → IsUnlinked c.args.files.now c.args.exports.now c.args.import_limit c.args.suffixes.now c.args.modules.items why)) (sym same)
-    (subst (λ (ms : List Module). e ≢ NoMemory → IsUnlinked c.args.files.now c.args.exports.now c.args.import_limit c.args.suffixes.now ms e) c.deref-2.ensures.value c.in_err-prepared.ensures.refused)
+    c.in_err-prepared.ensures.refused
 
 pub linked-text-requires-clause-count : goal.linked-text-requires-clause-count
 linked-text-requires-clause-count g c κs within =
-    let prepared : IsPrepared c.args.exports.now c.args.import_limit c.args.suffixes.now c.args.modules.items c.in_ok-prepared.prepared =
-    subst (λ (ms : List Module). IsPrepared c.args.exports.now c.args.import_limit c.args.suffixes.now ms c.in_ok-prepared.prepared) c.deref-2.ensures.value c.in_ok-prepared.ensures.done in
+    let prepared : IsPrepared c.args.exports.now c.args.import_limit c.args.suffixes.now c.args.modules.items c.in_ok-prepared.prepared = c.in_ok-prepared.ensures.done in
     omega (arith, parts_counted c.args.exports.now c.args.import_limit c.args.inline_limit c.args.suffixes.now c.args.modules.items c.in_ok-prepared.prepared prepared, c.requires.count)
 
 pub linked-text-requires-clause-ready : goal.linked-text-requires-clause-ready
 linked-text-requires-clause-ready g c κs within = λ t task.
-    let prepared : IsPrepared c.args.exports.now c.args.import_limit c.args.suffixes.now c.args.modules.items c.in_ok-prepared.prepared =
-    subst (λ (ms : List Module). IsPrepared c.args.exports.now c.args.import_limit c.args.suffixes.now ms c.in_ok-prepared.prepared) c.deref-2.ensures.value c.in_ok-prepared.ensures.done in
+    let prepared : IsPrepared c.args.exports.now c.args.import_limit c.args.suffixes.now c.args.modules.items c.in_ok-prepared.prepared = c.in_ok-prepared.ensures.done in
     let one : IsTaskInLink c.args.exports.now c.args.import_limit c.args.inline_limit c.args.suffixes.now c.args.modules.items t =
     task_in_link c.args.exports.now c.args.import_limit c.args.inline_limit c.args.suffixes.now c.args.modules.items c.in_ok-prepared.prepared prepared t task in
     let sound : All IsVerified c.args.modules.items = subst (λ (ms : List Module). All IsVerified ms) c.deref.ensures.value c.all_verified.ensures in
@@ -46,8 +44,7 @@ linked-text-requires-clause-ready g c κs within = λ t task.
 
 pub returns-in-Ok-clause-linked : goal.returns-in-Ok-clause-linked
 returns-in-Ok-clause-linked g c = λ trusted bytes accepted same.
-    let prepared : IsPrepared c.args.exports.now c.args.import_limit c.args.suffixes.now c.args.modules.items c.in_ok-prepared.prepared =
-    subst (λ (ms : List Module). IsPrepared c.args.exports.now c.args.import_limit c.args.suffixes.now ms c.in_ok-prepared.prepared) c.deref-2.ensures.value c.in_ok-prepared.ensures.done in
+    let prepared : IsPrepared c.args.exports.now c.args.import_limit c.args.suffixes.now c.args.modules.items c.in_ok-prepared.prepared = c.in_ok-prepared.ensures.done in
     let sound : All IsVerified c.args.modules.items = subst (λ (ms : List Module). All IsVerified ms) c.deref.ensures.value c.all_verified.ensures in
     ∥∥₁_map (c.in-Ok.ensures.joined trusted)
     (λ joined.
@@ -57,8 +54,7 @@ returns-in-Ok-clause-linked g c = λ trusted bytes accepted same.
 
 pub returns-in-Ok-clause-only : goal.returns-in-Ok-clause-only
 returns-in-Ok-clause-only g c = λ trusted bytes accepted same other h.
-    let prepared : IsPrepared c.args.exports.now c.args.import_limit c.args.suffixes.now c.args.modules.items c.in_ok-prepared.prepared =
-    subst (λ (ms : List Module). IsPrepared c.args.exports.now c.args.import_limit c.args.suffixes.now ms c.in_ok-prepared.prepared) c.deref-2.ensures.value c.in_ok-prepared.ensures.done in
+    let prepared : IsPrepared c.args.exports.now c.args.import_limit c.args.suffixes.now c.args.modules.items c.in_ok-prepared.prepared = c.in_ok-prepared.ensures.done in
     let sound : All IsVerified c.args.modules.items = subst (λ (ms : List Module). All IsVerified ms) c.deref.ensures.value c.all_verified.ensures in
     ∥∥₁_elim (c.in-Ok.ensures.joined trusted) (hlevel props)
     (λ joined.
@@ -69,8 +65,7 @@ returns-in-Ok-clause-only g c = λ trusted bytes accepted same other h.
 
 pub returns-in-Ok-clause-linkable : goal.returns-in-Ok-clause-linkable
 returns-in-Ok-clause-linkable g c =
-    let prepared : IsPrepared c.args.exports.now c.args.import_limit c.args.suffixes.now c.args.modules.items c.in_ok-prepared.prepared =
-    subst (λ (ms : List Module). IsPrepared c.args.exports.now c.args.import_limit c.args.suffixes.now ms c.in_ok-prepared.prepared) c.deref-2.ensures.value c.in_ok-prepared.ensures.done in
+    let prepared : IsPrepared c.args.exports.now c.args.import_limit c.args.suffixes.now c.args.modules.items c.in_ok-prepared.prepared = c.in_ok-prepared.ensures.done in
     record { index = c.in_ok-prepared.prepared.index; live = c.in_ok-prepared.prepared.live; imports = _; thin = prepared.thin; named = prepared.named }
 
 pub linked-text-requires-clause-pass : goal.linked-text-requires-clause-pass

@@ -1,6 +1,8 @@
 use Rattle.std.proofs.Common.{◌∙◌, subst, sym}
-use Rattle.ir_tree.specs.Wholes.{GlobalReached}
+use Rattle.std.specs.Prelude.{IfSome}
+use Rattle.ir_tree.specs.declared.module.GlobalValue.{GlobalValue}
+use Rattle.ir_flow.specs.OfFunction.{IsValueFlow}
 use Rattle.link_one.proofs.piece.linked_global.Goals as goal
 
-pub compile-requires-clause-reached : goal.compile-requires-clause-reached
-compile-requires-clause-reached c reached = subst GlobalReached (sym c.value.ensures ∙ c.in-Function.is) (c.is_reached.ensures reached)
+pub compile-requires-clause-flow : goal.compile-requires-clause-flow
+compile-requires-clause-flow c = subst (λ (g : GlobalValue). IfSome c.flow.result (λ w. IsValueFlow g w.now)) (sym c.value.ensures ∙ c.in-Function.is) c.flow.ensures

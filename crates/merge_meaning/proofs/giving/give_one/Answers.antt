@@ -3,14 +3,15 @@ use Rattle.std.proofs.lemmas.List.{append-nil}
 use Rattle.ir_tree.specs.declared.module.GlobalValue.{GlobalValue}
 use Rattle.ir_meaning.specs.Programs.{symbol_of}
 use Rattle.symbol_resolve.specs.Resolved.{module_of}
-use Rattle.ir_tree.specs.Wholes.{GlobalReached}
+use Rattle.std.specs.Prelude.{IfSome}
+use Rattle.ir_flow.specs.OfFunction.{IsValueFlow}
 use Rattle.merge_meaning.specs.Scopes.{names_by}
-use Rattle.merge_meaning.proofs.Reached.{reached_under}
+use Rattle.merge_meaning.proofs.Flows.{flow_under}
 use Rattle.merge_meaning.proofs.Tabled.{given_else, given_then}
 use Rattle.merge_meaning.proofs.giving.give_one.Goals as goal
 
 pub of-requires : goal.of-requires
-of-requires c reached = subst GlobalReached (sym c.in_ok-value.ensures) (reached_under (names_by c.args.scope.now) c.args.global.now (c.requires reached))
+of-requires c = subst (λ (g : GlobalValue). IfSome c.args.flow (IsValueFlow g)) (sym c.in_ok-value.ensures) (flow_under (names_by c.args.scope.now) c.args.global.now c.args.flow c.requires)
 
 pub returns-in_ok-push : goal.returns-in_ok-push
 returns-in_ok-push c =

@@ -17,12 +17,12 @@ pub returns-clause-because : goal.returns-clause-because
 returns-clause-because g c =
     let fetched : AreFetched c.args.names.now c.as_slice.result.now (λ (calls : List Call). g.F.Files.did c.args.files.now calls c.fetch_all.new.files) =
     subst (λ (l : List (Option (List ℕ))). AreFetched c.args.names.now l (λ (calls : List Call). g.F.Files.did c.args.files.now calls c.fetch_all.new.files)) (sym c.as_slice.ensures) (record { each = c.in-Ok.ensures.each; calls = c.in-Ok.ensures.fetched }) in
-    IfErr-weaker c.read_all.result _ _
+    IfErr-weaker c.read_alone.result _ _
     (λ why h. read_because c.args.names.now c.as_slice.result.now (files_seen g.F.Files.did g.F.Files.held g.F.Files.faults c.args.files.now c.fetch_all.new.files) fetched why h)
-    c.read_all.ensures.because
+    c.read_alone.ensures.because
 
 pub returns-clause-read : goal.returns-clause-read
 returns-clause-read g c =
     let fetched : AreFetched c.args.names.now c.as_slice.result.now (λ (calls : List Call). g.F.Files.did c.args.files.now calls c.fetch_all.new.files) =
     subst (λ (l : List (Option (List ℕ))). AreFetched c.args.names.now l (λ (calls : List Call). g.F.Files.did c.args.files.now calls c.fetch_all.new.files)) (sym c.as_slice.ensures) (record { each = c.in-Ok.ensures.each; calls = c.in-Ok.ensures.fetched }) in
-    IfOk-weaker c.read_all.result _ _ (λ ms read. record { given = c.as_slice.result.now; fetched = fetched; read = read }) c.read_all.ensures.read
+    IfOk-weaker c.read_alone.result _ _ (λ ms read. record { given = c.as_slice.result.now; fetched = fetched; read = read }) c.read_alone.ensures.read

@@ -13,7 +13,7 @@ use Rattle.link_one.specs.Refusing.{IsLeastTaken, IsUnlinked}
 use Rattle.link_one.specs.declared.prepare.Contents.{Contents}
 use Rattle.link_one.specs.declared.prepare.Prepared.{Prepared}
 use Rattle.link_one.proofs.Preparing.{prepared_of}
-use Rattle.link_one.proofs.prepare.prepare.Goals as goal
+use Rattle.link_one.proofs.prepare.decided_and_prepared.Goals as goal
 
 pub named_contents-contents-requires-clause-suffixes : goal.named_contents-contents-requires-clause-suffixes
 named_contents-contents-requires-clause-suffixes c = c.requires.suffixes ∙ sym (modules_counted c.args.modules.now c.in_ok-decided.decided.index c.in_ok-decided.ensures.done.combined)

@@ -4,7 +4,7 @@ use Rattle.ir_tree.specs.declared.module.GlobalValue.{GlobalValue}
 use Rattle.ir_tree.specs.declared.module.Module.{Module}
 use Rattle.ir_verify.specs.Modules.{IsFirst}
 use Rattle.ir_verify.proofs.Modules.{least_of}
-use Rattle.ir_verify.proofs.globals.module_fault_and_reach.Goals as goal
+use Rattle.ir_verify.proofs.globals.module_fault_and_flow.Goals as goal
 
 pub returns-clause-fault : goal.returns-clause-fault
 returns-clause-fault c =
