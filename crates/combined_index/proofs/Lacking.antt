@@ -13,13 +13,10 @@ use Rattle.combined_index.specs.Liveness.{AllExported, AreLive, IsDefined, IsLac
 use Rattle.combined_index.specs.LiveMarks.{IsLackingAt, IsUnexportedAt, exported, is_lacking}
 use Rattle.combined_index.specs.Reach.{leads, starts}
 use Rattle.combined_index.proofs.Leasts.{best-more, best-same}
-use Rattle.combined_index.proofs.Starting.{exported_is, exported_there}
+use Rattle.combined_index.proofs.Starting.{exported_is, exported_there, some_same}
 
 none_some : {X : Type 0} {x : X} → None ≡ Some x → ⊥
 none_some h = cc
-
-some_same : {X : Type 0} {x y : X} → Some x ≡ Some y → x ≡ y
-some_same h = cc
 
 pub both_true : (a b : Bool) → a && b ≡ true → (a ≡ true) × (b ≡ true)
 both_true true b h = (refl, h)

@@ -9,12 +9,10 @@ use Rattle.combined_index.specs.declared.definition.Definition.{Definition}
 use Rattle.combined_index.specs.Liveness.{AreLive, IsFirstModule, IsLacking, RefersFrom, refs, refs_of}
 use Rattle.combined_index.specs.LiveMarks.{AreReferred, any_refers, refers}
 use Rattle.combined_index.proofs.Lacking.{both_are, both_true, lacking_is}
+use Rattle.combined_index.proofs.Starting.{some_same}
 
 none_some : {X : Type 0} {x : X} → None ≡ Some x → ⊥
 none_some h = cc
-
-some_same : {X : Type 0} {x y : X} → Some x ≡ Some y → x ≡ y
-some_same h = cc
 
 -- ---- tests of lists
 

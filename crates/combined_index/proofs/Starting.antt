@@ -16,7 +16,7 @@ use Rattle.combined_index.proofs.Starts.{no_member}
 none_some : {X : Type 0} {x : X} → None ≡ Some x → ⊥
 none_some h = cc
 
-some_same : {X : Type 0} {x y : X} → Some x ≡ Some y → x ≡ y
+pub some_same : {X : Type 0} {x y : X} → Some x ≡ Some y → x ≡ y
 some_same h = cc
 
 position_inside : {X : Type 0} (t : X → Bool) (i : ℕ) (xs : List X) (n : ℕ) → position_from t i xs ≡ Some n → n < i + length xs

@@ -1,5 +1,5 @@
 //! The index of all summaries.
-ghost use Rattle.std.specs.Prelude.{map, IfOk};
+ghost use Rattle.std.specs.Prelude.{◌≡◌, map, [], IfOk};
 ghost use Rattle.combined_index.specs.Entries.{combined};
 ghost use Rattle.combined_index.specs.Indexed.{IsCombined};
 ghost use Rattle.combined_index.specs.Numbered.{NumbersModules, symbols};
@@ -35,16 +35,17 @@ fn modules_of<'a>(
     Ok(modules)
 }
 
-/// The index of the definitions that these summaries are of.
-fn index_of(
+/// The index of the definitions that these summaries are of; the table has no symbol yet.
+fn index_of<'a>(
     alloc: Global,
-    summaries: &[Vec<Summary>],
+    table: &mut IndexSet<Key<'a>>,
     resolution: &Resolution,
+    summaries: &'a [Vec<Summary>],
 ) -> Result<Index, AllocError>
+    requires { table.old.keys ≡ [] }
     ensures { IfOk result (λ index. IsCombined resolution.now (map (λ m. m.items) summaries.now) index) }
 {
-    let mut table = IndexSet::new(alloc);
-    let modules = modules_of(alloc, &mut table, resolution, summaries)?;
+    let modules = modules_of(alloc, table, resolution, summaries)?;
     if table.len() > 0xFFFF_FFFF {
         return Err(AllocError);
     }
@@ -64,5 +65,6 @@ pub fn combine(
 ) -> Result<Index, AllocError>
     ensures { IfOk result (λ index. IsCombined resolution.now (map (λ m. m.items) summaries.items) index) }
 {
-    index_of(alloc, summaries.as_slice(), resolution)
+    let mut table = IndexSet::new(alloc);
+    index_of(alloc, &mut table, resolution, summaries.as_slice())
 }
