@@ -11,9 +11,7 @@ use Rattle.ir_tree.specs.Wholes.{GlobalBreaks, GlobalSound}
 use Rattle.ir_tree.specs.declared.module.GlobalValue.{GlobalValue}
 use Rattle.ir_tree.specs.declared.module.GlobalValue.TheVariants as global
 use Rattle.ir_tree.specs.declared.rule.Rule.{Rule}
-
-some_is : {X : Type 0} (a b : X) → ◌≡◌ {A = Option X} (Some a) (Some b) → a ≡ b
-some_is a b e = cc
+use Rattle.merge_meaning.proofs.Looked.{some_is}
 
 found : {X : Type 0} (xs : List X) (i : ℕ) (x : X) → slice_get xs i ≡ Some x → (i < length xs) × (slice_index_or xs i x ≡ x)
 found [] i x e = absurd (cc e)

@@ -3,9 +3,7 @@ use Rattle.std.proofs.Common.{◌≡◌, ℕ, zero, suc, List, [], ◌∷◌, �
 use Rattle.ir_tree.specs.declared.module.Module.{Module}
 use Rattle.ir_flow.specs.OfFunction.{AreFlows, AreModuleFlows}
 use Rattle.ir_flow.specs.declared.flow.Flow.{Flow}
-
-some_is : {A : Type 0} (a b : A) → ◌≡◌ {A = Option A} (Some a) (Some b) → a ≡ b
-some_is a b e = cc
+use Rattle.merge_meaning.proofs.Looked.{some_is}
 
 same_flows : (m h : Module) (known flows : List (Option Flow)) → m ≡ h → known ≡ flows → AreFlows m.globals known → AreFlows h.globals flows
 same_flows m h known flows e d are = subst (λ (all : List (Option Flow)). AreFlows h.globals all) d (subst (λ (n : Module). AreFlows n.globals known) e are)

@@ -3,9 +3,7 @@ use Rattle.ir_tree.specs.declared.module.Module.{Module}
 use Rattle.ir_flow.specs.OfFunction.{AreFlows, AreModuleFlows}
 use Rattle.ir_flow.specs.declared.flow.Flow.{Flow}
 use Rattle.tests_link.proofs.links.flows.part.Goals as goal
-
-some_is : {A : Type 0} (a b : A) → ◌≡◌ {A = Option A} (Some a) (Some b) → a ≡ b
-some_is a b e = cc
+use Rattle.merge_meaning.proofs.Looked.{some_is}
 
 one_module : (m : Module) (known : List (Option Flow)) → AreFlows m.globals known → AreModuleFlows (m ∷ []) (known ∷ [])
 one_module m known are zero h flows got told =
