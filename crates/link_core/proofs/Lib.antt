@@ -1,3 +1,4 @@
 pub mod Lists
 pub mod Runs
 pub mod Sound
+pub mod Places

@@ -1,6 +1,7 @@
 //! The core as a value: its start, and its step by one event.
-ghost use Rattle.std.specs.Prelude.{◌≡◌, ℕ, ◌<◌, ◌∷◌, ◌++◌, map, length, slice_get, Some, IfOk, OnOk, OnErr, IfErr, option_to_list, IsTrue, ◌↔◌};
+ghost use Rattle.std.specs.Prelude.{◌≡◌, ℕ, ◌<◌, List, ◌++◌, map, length, slice_get, Some, IfOk, OnOk, OnErr, IfErr, option_to_list, IsTrue, ◌↔◌};
 ghost use Rattle.std.specs.Option.{option_copied};
+ghost use Rattle.link_core.specs.declared.event.DiskPair.{DiskPair};
 ghost use Rattle.link_core.specs.declared.event.Phase.{Phase};
 ghost use Rattle.link_core.specs.Machine.{results_at, start, stepped, with_entry, saved, settled, key_at};
 ghost use Rattle.link_core.specs.Views.{parts_of};
@@ -117,15 +118,9 @@ fn keep(
         return Err(not_enabled(alloc, link.phase(worker)));
     };
     let entry = new_entry(alloc, entries, key.as_slice(), text.as_slice())?;
-    let pair = if taken {
-        Some(copied_pair(alloc, key.as_slice(), text.as_slice())?)
-    } else {
-        None
-    };
+    let pair = taken_pair(alloc, taken, key.as_slice(), text.as_slice())?;
     entries.reserve(1)?;
-    if let Some(pair) = pair {
-        save(disk, pair)?;
-    }
+    save(disk, pair)?;
     if let Some(entry) = entry {
         entries.push_reserved(entry);
     }
@@ -148,11 +143,29 @@ fn new_entry(
     Ok(Some(copied_pair(alloc, key, text)?))
 }
 
+/// The pair, if the disk takes it.
+fn taken_pair(
+    alloc: Global,
+    taken: bool,
+    key: &[u8],
+    text: &[u8],
+) -> Result<Option<DiskPair>, AllocError>
+    ensures { IfOk result (λ new. (disk : List DiskPair) → saved disk key.now text.now taken ≡ option_to_list new ++ disk) }
+{
+    if taken {
+        Ok(Some(copied_pair(alloc, key, text)?))
+    } else {
+        Ok(None)
+    }
+}
+
 /// The disk takes a pair, which its look-ups then find before older ones of the key.
-fn save(disk: &mut Vec<DiskPair>, pair: DiskPair) -> Result<(), AllocError>
-    ensures ok { OnOk result (disk.new.items ≡ pair ∷ disk.old.items) }
+fn save(disk: &mut Vec<DiskPair>, pair: Option<DiskPair>) -> Result<(), AllocError>
+    ensures ok { OnOk result (disk.new.items ≡ option_to_list pair ++ disk.old.items) }
     ensures err { OnErr result (disk.new.items ≡ disk.old.items) }
 {
-    disk.insert(0, pair)?;
+    if let Some(pair) = pair {
+        disk.insert(0, pair)?;
+    }
     Ok(())
 }

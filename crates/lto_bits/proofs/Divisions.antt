@@ -5,7 +5,7 @@ use Rattle.std.specs.Int.Signed.{mag}
 use Rattle.std.proofs.Math.IntN.{neg_ℤ}
 use Rattle.std.proofs.Math.Nat.{div-le_self}
 use Rattle.std.proofs.lemmas.Nat.{div_below}
-use Rattle.std.proofs.lemmas.Int.{ints, rem_is, quot_is}
+use Rattle.std.proofs.lemmas.Int.{ints, rem_is, quot_is, to_z-of_z}
 use Rattle.std.proofs.lemmas.Bool.{ne_eqb, or_from, and_left, and_right}
 use Rattle.lto_bits.specs.declared.operator.BinaryOp.TheVariants.{Sdiv}
 use Rattle.lto_bits.specs.Operation.{breaks}
@@ -63,3 +63,34 @@ quotient_in_64 s t x y f g h p q =
     ap (λ z. to_z w64 (of_z w64 (int_div (to_z w64 (of_z w64 z)) (to_z w64 (of_z w64 t))))) p
     ∙ ap (λ z. to_z w64 (of_z w64 (int_div (to_z w64 (of_z w64 x)) (to_z w64 (of_z w64 z))))) q
     ∙ quot_is w64 x y f g h
+
+-- a word that isn't 0 isn't 0 as a signed number, nor are its bits
+zero_alone : (h b : ℕ) → b < 2 * h → cond (nat_lt b h) (pos b) (pos b -ℤ pos (2 * h)) ≡ pos 0 → b ≡ 0
+zero_alone h b p e = grind (arith, ints)
+
+signed_some : (w b : ℕ) → 1 ≤ w → b < 2 ^ w → (b ≡ 0 → ⊥) → signed w b ≡ pos 0 → ⊥
+signed_some w b some q other e =
+    let double : 2 ^ w ≡ 2 * 2 ^ (w - 1) = doubled w some in
+    other (subst (λ m. cond (nat_lt b (2 ^ (w - 1))) (pos b) (pos b -ℤ pos m) ≡ pos 0 → b ≡ 0) (sym double) (zero_alone (2 ^ (w - 1)) b (subst (λ m. b < m) double q)) e)
+
+bits_some : (z : ℤ) → FitsSigned w64 z → (z ≡ pos 0 → ⊥) → 0 < of_z w64 z
+bits_some z fits other = by (of_z w64 z) refl
+  where
+    by : (n : ℕ) → of_z w64 z ≡ n → 0 < n
+    by zero e = absurd (other (sym (to_z-of_z w64 z fits) ∙ ap (to_z w64) e))
+    by (suc n) e = omega arith
+
+-- what the code divides by isn't 0, and the quotient fits
+pub division_defined : (w a b : ℕ) (s t : ℤ) → 1 ≤ w → w ≤ 64 → a < 2 ^ w → b < 2 ^ w → (b ≡ 0 → ⊥) → ((b ≡ 2 ^ w - 1 → ⊥) ⊎ (a ≡ 2 ^ (w - 1) → ⊥)) → s ≡ signed w a → t ≡ signed w b
+    → (0 < of_z w64 t) × FitsSigned w64 (int_div (to_z w64 (of_z w64 s)) (to_z w64 (of_z w64 t)))
+division_defined w a b s t some within left right other defined p q =
+    let first : FitsSigned w64 (signed w a) = signed_fits w a some within left in
+    let second : FitsSigned w64 (signed w b) = signed_fits w b some within right in (
+      subst (λ z. 0 < of_z w64 z) (sym q) (bits_some (signed w b) second (signed_some w b some right other)),
+      subst (λ z. FitsSigned w64 z)
+          (sym (ap (λ z. int_div (to_z w64 (of_z w64 z)) (to_z w64 (of_z w64 t))) p
+          ∙ ap (λ z. int_div (to_z w64 (of_z w64 (signed w a))) (to_z w64 (of_z w64 z))) q
+          ∙ ap (λ z. int_div z (to_z w64 (of_z w64 (signed w b)))) (to_z-of_z w64 (signed w a) first)
+          ∙ ap (λ z. int_div (signed w a) z) (to_z-of_z w64 (signed w b) second)))
+          (signed_quotient_fits w a b some within left right defined),
+    )

@@ -120,3 +120,32 @@ difference_in_128 f g x y fits fits' p q = ap (λ z. to_z w128 (of_z w128 (to_z 
 
 pub product_in_128 : (f g x y : ℤ) → FitsSigned w64 x → FitsSigned w64 y → f ≡ x → g ≡ y → to_z w128 (of_z w128 (to_z w128 (of_z w128 f) *ℤ to_z w128 (of_z w128 g))) ≡ x *ℤ y
 product_in_128 f g x y fits fits' p q = ap (λ z. to_z w128 (of_z w128 (to_z w128 (of_z w128 z) *ℤ to_z w128 (of_z w128 g)))) p ∙ ap (λ z. to_z w128 (of_z w128 (to_z w128 (of_z w128 x) *ℤ to_z w128 (of_z w128 z)))) q ∙ wide_product x y fits fits'
+
+-- a power of two that is a number of 64 bits stands in 128 bits as it is
+power_within : (b : ℕ) → b < 64 → 2 ^ b ≤ 2 ^ 63
+power_within b h =
+    let e : b ≤ 63 = omega arith in
+    pow_mono e
+
+power_in_64 : (b : ℕ) → b < 64 → 1 * 2 ^ b % 2 ^ 64 ≡ 2 ^ b
+power_in_64 b h = omega (arith, power_within b h)
+
+power_in_128 : (b : ℕ) → b < 64 → to_z w128 (of_z w128 (pos (2 ^ b))) ≡ pos (2 ^ b)
+power_in_128 b h = to_z-of_z w128 (pos (2 ^ b)) (record { sfits = omega (arith, power_within b h) })
+
+-- a shifted number is the product with a power of two, which stands in 128 bits
+shifted_fits : (x : ℤ) (b : ℕ) → FitsSigned w64 x → b < 64 → FitsSigned w128 (x *ℤ pos (2 ^ b))
+shifted_fits x b fits h = fits_signed_mul w128 x (pos (2 ^ b)) (2 ^ 63) (2 ^ 63) (abs_within x fits) (power_within b h) (omega arith)
+
+shifted_is : (f t x : ℤ) (b : ℕ) → FitsSigned w64 x → b < 64 → f ≡ x → t ≡ pos (1 * 2 ^ b % 2 ^ 64) → to_z w128 (of_z w128 f) *ℤ to_z w128 (of_z w128 t) ≡ x *ℤ pos (2 ^ b)
+shifted_is f t x b fits h p q =
+    ap (λ z. to_z w128 (of_z w128 z) *ℤ to_z w128 (of_z w128 t)) p
+    ∙ ap (λ z. z *ℤ to_z w128 (of_z w128 t)) (wide x fits)
+    ∙ ap (λ z. x *ℤ to_z w128 (of_z w128 z)) (q ∙ ap pos (power_in_64 b h))
+    ∙ ap (λ z. x *ℤ z) (power_in_128 b h)
+
+pub shifted_within : (f t x : ℤ) (b : ℕ) → FitsSigned w64 x → b < 64 → f ≡ x → t ≡ pos (1 * 2 ^ b % 2 ^ 64) → FitsSigned w128 (to_z w128 (of_z w128 f) *ℤ to_z w128 (of_z w128 t))
+shifted_within f t x b fits h p q = subst (λ z. FitsSigned w128 z) (sym (shifted_is f t x b fits h p q)) (shifted_fits x b fits h)
+
+pub shifted_in_128 : (f t x : ℤ) (b : ℕ) → FitsSigned w64 x → b < 64 → f ≡ x → t ≡ pos (1 * 2 ^ b % 2 ^ 64) → to_z w128 (of_z w128 (to_z w128 (of_z w128 f) *ℤ to_z w128 (of_z w128 t))) ≡ x *ℤ pos (2 ^ b)
+shifted_in_128 f t x b fits h p q = ap (λ z. to_z w128 (of_z w128 z)) (shifted_is f t x b fits h p q) ∙ to_z-of_z w128 (x *ℤ pos (2 ^ b)) (shifted_fits x b fits h)

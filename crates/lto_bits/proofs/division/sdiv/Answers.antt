@@ -5,7 +5,7 @@ use Rattle.lto_bits.specs.Word.{signed, wrapped}
 use Rattle.lto_bits.specs.Operation.{arithmetic}
 use Rattle.lto_bits.proofs.Choices.{same_answer}
 use Rattle.lto_bits.proofs.Words.{signed_fits}
-use Rattle.lto_bits.proofs.Divisions.{breaks_not, remainder_in_64, quotient_in_64, signed_quotient_fits}
+use Rattle.lto_bits.proofs.Divisions.{breaks_not, remainder_in_64, quotient_in_64, signed_quotient_fits, division_defined}
 use Rattle.lto_bits.proofs.division.sdiv.Goals as goal
 use Rattle.lto_bits.proofs.division.sdiv.Goals.{else-b-greatest-via-then-b-greatest+else-a-sign_bit, else-b-greatest-via-else-b-greatest}
 
@@ -27,3 +27,21 @@ returns c =
     c.value_if.ensures
     ∙ same_answer _ _ _ _ (ap (λ r. not c.args.flags.exact || nat_eq r 0) remainder) quotient
     ∙ sym (cond-false _ _ _ (breaks_not w a b c.if-b-eq0.false defined))
+
+pub nonzero_rem-dividend : goal.nonzero_rem-dividend
+nonzero_rem-dividend c =
+    let defined : (c.args.b ≡ 2 ^ c.args.w - 1 → ⊥) ⊎ (c.args.a ≡ 2 ^ (c.args.w - 1) → ⊥) =
+    elim c.else-b-greatest.branch [
+      | else-b-greatest-via-then-b-greatest+else-a-sign_bit v ↦ inr (λ e. v.if-a-sign_bit.false (e ∙ sym v.sign_bit.ensures))
+      | else-b-greatest-via-else-b-greatest v ↦ inl (λ e. v.if-b-greatest.false (e ∙ sym c.greatest.ensures))
+    ] in
+    division_defined c.args.w c.args.a c.args.b _ _ c.requires.some c.requires.within c.requires.left c.requires.right c.if-b-eq0.false defined c.signed-dividend.ensures c.signed-divisor.ensures
+
+pub nonzero_div-dividend : goal.nonzero_div-dividend
+nonzero_div-dividend c =
+    let defined : (c.args.b ≡ 2 ^ c.args.w - 1 → ⊥) ⊎ (c.args.a ≡ 2 ^ (c.args.w - 1) → ⊥) =
+    elim c.else-b-greatest.branch [
+      | else-b-greatest-via-then-b-greatest+else-a-sign_bit v ↦ inr (λ e. v.if-a-sign_bit.false (e ∙ sym v.sign_bit.ensures))
+      | else-b-greatest-via-else-b-greatest v ↦ inl (λ e. v.if-b-greatest.false (e ∙ sym c.greatest.ensures))
+    ] in
+    division_defined c.args.w c.args.a c.args.b _ _ c.requires.some c.requires.within c.requires.left c.requires.right c.if-b-eq0.false defined c.signed-dividend.ensures c.signed-divisor.ensures

@@ -4,7 +4,7 @@ use Rattle.lto_bits.specs.declared.answer.Answer.TheVariants.{Value}
 use Rattle.lto_bits.specs.Word.{signed, wrapped}
 use Rattle.lto_bits.specs.Operation.{arithmetic}
 use Rattle.lto_bits.proofs.Words.{signed_fits}
-use Rattle.lto_bits.proofs.Divisions.{breaks_not, remainder_in_64}
+use Rattle.lto_bits.proofs.Divisions.{breaks_not, division_defined, remainder_in_64}
 use Rattle.lto_bits.proofs.division.srem.Goals as goal
 use Rattle.lto_bits.proofs.division.srem.Goals.{else-b-greatest-via-then-b-greatest+else-a-sign_bit, else-b-greatest-via-else-b-greatest}
 
@@ -23,3 +23,12 @@ returns c =
     ] in
     ap Value (c.wrap.ensures ∙ ap (λ z. wrapped w z) (remainder_in_64 _ _ (signed w a) (signed w b) left right c.signed.ensures c.signed-2.ensures))
     ∙ sym (cond-false _ _ _ (breaks_not w a b c.if-b-eq0.false defined))
+
+pub nonzero_rem-signed : goal.nonzero_rem-signed
+nonzero_rem-signed c =
+    let defined : (c.args.b ≡ 2 ^ c.args.w - 1 → ⊥) ⊎ (c.args.a ≡ 2 ^ (c.args.w - 1) → ⊥) =
+    elim c.else-b-greatest.branch [
+      | else-b-greatest-via-then-b-greatest+else-a-sign_bit v ↦ inr (λ e. v.if-a-sign_bit.false (e ∙ sym v.sign_bit.ensures))
+      | else-b-greatest-via-else-b-greatest v ↦ inl (λ e. v.if-b-greatest.false (e ∙ sym c.greatest.ensures))
+    ] in
+    division_defined c.args.w c.args.a c.args.b _ _ c.requires.some c.requires.within c.requires.left c.requires.right c.if-b-eq0.false defined c.signed.ensures c.signed-2.ensures
