@@ -1,11 +1,12 @@
 -- What is read, added to what was read before.
-use Rattle.std.proofs.Common.{◌≡◌, Bool, false, List, [], ◌∷◌, ◌++◌, Result, Ok, Err, refl, sym, ap, ◌∙◌}
+use Rattle.std.proofs.Common.{◌≡◌, Bool, false, List, [], ◌∷◌, ◌++◌, Result, Ok, Err, refl, sym, ap, subst, ◌∙◌}
+use Rattle.std.specs.Prelude.{IfErr, OnOk}
 use Rattle.ir_lex.specs.Tok.{Tok}
 use Rattle.ir_parse_parts.specs.Chained.{chain_at, stops_here}
 use Rattle.ir_parse_parts.specs.declared.fault.Fault.{Fault}
 use Rattle.ir_tree.specs.declared.failure.Failure.{Failure}
 use Rattle.ir_tree.specs.declared.failure.Failure.TheVariants as errors
-use Rattle.ir_parse_parts.specs.Readers.{Reader, Fails, done, follow, folded}
+use Rattle.ir_parse_parts.specs.Readers.{Reader, Fails, Returns, done, follow, folded}
 use Rattle.ir_parse_parts.proofs.Composed.{reads_is}
 
 -- what fails first fails
@@ -24,6 +25,11 @@ pub pushed_fails : {A : Type 0} (front : List A) (e : Failure Fault) (r : Result
 pushed_fails front errors.NoMemory r h = tt
 pushed_fails front (errors.Fault f) (Ok y) h = absurd cc
 pushed_fails front (errors.Fault f) (Err d) h = cc
+
+-- what is read, added by a push
+pub pushed_returns : {A : Type 0} (result : Result (Unit {0}) (Failure Fault)) (new front : List A) (x : A) (rest : List Tok) (read : Result (List A × List Tok) Fault) → OnOk result (new ≡ front ++ x ∷ []) → IfErr result (λ e. e ≡ errors.NoMemory) → read ≡ Ok (front ++ x ∷ [], rest) → Returns (λ (u : Unit {0}). (new, rest)) result read
+pushed_returns {A} (Ok u) new front x rest read p m e = e ∙ ap (λ (xs : List A). Ok (xs, rest)) (sym p)
+pushed_returns (Err d) new front x rest read p m e = subst (λ (f : Failure Fault). Fails f read) (sym m) tt
 
 module _ {A S B : Type 0} (step : B → A → B) (front : B) where
   -- where a piece was gathered, it was read

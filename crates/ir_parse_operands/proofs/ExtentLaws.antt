@@ -1,5 +1,5 @@
 -- What is read in some room has room.
-use Rattle.std.proofs.Common.{◌≡◌, ℕ, ◌+◌, ◌-◌, ◌*◌, ◌/◌, ◌≤◌, ◌<◌, nat_eq, Bool, true, false, cond, List, [], ◌∷◌, ◌++◌, refl, sym, subst, arith}
+use Rattle.std.proofs.Common.{◌≡◌, ℕ, ◌+◌, ◌-◌, ◌*◌, ◌/◌, ◌≤◌, ◌<◌, nat_eq, Bool, true, false, cond, List, [], ◌∷◌, ◌++◌, refl, sym, ap, ◌∙◌, subst, arith}
 use Rattle.std.specs.Prelude.{nat_le}
 use Rattle.std.proofs.lemmas.Nat.{mul-le}
 use Rattle.std.proofs.Math.Nat.{mul-div-le, div-le_self}
@@ -232,3 +232,14 @@ shared_room n room h = record {
 pub one_member_more : (packed : Bool) (s : Extent) (shapes : List Written) (w : Written) → members_extent packed s (parts_of (shapes ++ w ∷ [])) ≡ grown packed (members_extent packed s (parts_of shapes)) (extent_of w)
 one_member_more packed s [] w = refl
 one_member_more packed s (v ∷ more) w = one_member_more packed (grown packed s (extent_of v)) more w
+
+abbrev room_with : ℕ → ℕ → ℕ → ℕ → Room
+room_with one two four eight = record { one = one; two = two; four = four; eight = eight }
+
+-- the same room for each alignment
+pub same_room : (one two four eight one' two' four' eight' : ℕ) → one ≡ one' → two ≡ two' → four ≡ four' → eight ≡ eight' → room_with one two four eight ≡ room_with one' two' four' eight'
+same_room one two four eight one' two' four' eight' e f g h =
+    ap (λ (n : ℕ). room_with n two four eight) e
+    ∙ ap (λ (n : ℕ). room_with one' n four eight) f
+    ∙ ap (λ (n : ℕ). room_with one' two' n eight) g
+    ∙ ap (λ (n : ℕ). room_with one' two' four' n) h

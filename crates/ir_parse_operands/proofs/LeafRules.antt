@@ -70,30 +70,29 @@ only n m h = by_value (nat_eq n m) refl h
 abbrev named_means : Bool → Option Typed → TokenFault → Result Typed TokenFault
 named_means b o k = cond b (in_range o) (Err k)
 
+abbrev leaf_of : Bool → Bool → Typed → Option Typed → TokenFault → Result Typed TokenFault
+leaf_of scalar local x o k = cond scalar (Ok x) (named_means local o k)
+
+-- what is out of range is named
+is_named : (scalar local : Bool) (x : Typed) (o : Option Typed) (k : TokenFault) → (k ≡ Number → ⊥) → leaf_of scalar local x o k ≡ refuse Number → local ≡ true
+is_named true local x o k other e = absurd cc
+is_named false true x o k other e = refl
+is_named false false x o k other e = absurd (other (err_is k Number e))
+
+-- no limit is passed
+within_limits : (scalar local : Bool) (x : Typed) (o : Option Typed) (k : TokenFault) → (k ≡ Limit → ⊥) → leaf_of scalar local x o k ≡ refuse Limit → ⊥
+within_limits true local x o k other e = cc
+within_limits false true x None k other e = cc
+within_limits false true x (Some y) k other e = cc
+within_limits false false x o k other e = other (err_is k Limit e)
+
 leaf_range : (room : Room) (t : Tok) → is_leaf room t ≡ refuse Number → (is_number tokens t ≡ true) × (u : Tok) × (b : Typed) × (tokens.class u ≡ tokens.class t) × (is_leaf room u ≡ Ok b) × IsReal u
 unfolding is_leaf is_valued
-leaf_range room t e = by_test (among tokens SCALAR t && has_room room t) e
-  where
-    by_name : (b : Bool) (o : Option Typed) → among tokens LOCAL t ≡ b → named_means b o (memory_refusal (number t.kind)) ≡ refuse Number → (is_number tokens t ≡ true) × (u : Tok) × (b : Typed) × (tokens.class u ≡ tokens.class t) × (is_leaf room u ≡ Ok b) × IsReal u
-    by_name true o h d = let c : number t.kind ≡ number kinds.Local = only (number t.kind) (number kinds.Local) h in (ap (contains NUMERALS) c, zero_local, zero_typed, sym c, zero_is_leaf room, local_real)
-    by_name false o h d = absurd (memory_not_number (number t.kind) (err_is (memory_refusal (number t.kind)) Number d))
-
-    by_test : (b : Bool) → cond b (Ok (scalar_typed t)) (named_means (among tokens LOCAL t) (type_name t) (memory_refusal (number t.kind))) ≡ refuse Number → (is_number tokens t ≡ true) × (u : Tok) × (b : Typed) × (tokens.class u ≡ tokens.class t) × (is_leaf room u ≡ Ok b) × IsReal u
-    by_test true d = absurd cc
-    by_test false d = by_name (among tokens LOCAL t) (type_name t) refl d
+leaf_range room t e = let h : among tokens LOCAL t ≡ true = is_named (among tokens SCALAR t && has_room room t) (among tokens LOCAL t) (scalar_typed t) (type_name t) (memory_refusal (number t.kind)) (memory_not_number (number t.kind)) e in let c : number t.kind ≡ number kinds.Local = only (number t.kind) (number kinds.Local) h in (ap (contains NUMERALS) c, zero_local, zero_typed, sym c, zero_is_leaf room, local_real)
 
 leaf_never : (room : Room) (t : Tok) → is_leaf room t ≡ refuse Limit → ⊥
 unfolding is_leaf is_valued
-leaf_never room t e = by_test (among tokens SCALAR t && has_room room t) e
-  where
-    by_name : (b : Bool) (o : Option Typed) → named_means b o (memory_refusal (number t.kind)) ≡ refuse Limit → ⊥
-    by_name true None d = cc
-    by_name true (Some x) d = cc
-    by_name false o d = memory_not_limit (number t.kind) (err_is (memory_refusal (number t.kind)) Limit d)
-
-    by_test : (b : Bool) → cond b (Ok (scalar_typed t)) (named_means (among tokens LOCAL t) (type_name t) (memory_refusal (number t.kind))) ≡ refuse Limit → ⊥
-    by_test true d = cc
-    by_test false d = by_name (among tokens LOCAL t) (type_name t) d
+leaf_never room t e = within_limits (among tokens SCALAR t && has_room room t) (among tokens LOCAL t) (scalar_typed t) (type_name t) (memory_refusal (number t.kind)) (memory_not_limit (number t.kind)) e
 
 is_false : (b : Bool) → (b ≡ true → ⊥) → b ≡ false
 is_false true never = absurd (never refl)

@@ -1,7 +1,7 @@
 -- Reading one behind another, as many as a list says, as loops do.
-use Rattle.std.proofs.Common.{◌≡◌, List, [], ◌∷◌, ◌++◌, Result, Ok, Err, refl, sym, ap, subst, ◌∙◌, append_assoc}
+use Rattle.std.proofs.Common.{◌≡◌, List, [], ◌∷◌, ◌++◌, Result, Ok, Err, refl, sym, ap, subst, ◌∙◌, append_assoc, reverse}
 use Rattle.std.specs.List.{fold}
-use Rattle.std.proofs.lemmas.List.{append-nil}
+use Rattle.std.proofs.lemmas.List.{append-nil, reverse-append}
 use Rattle.ir_parse_parts.specs.declared.fault.Fault.{Fault}
 use Rattle.ir_tree.specs.declared.failure.Failure.{Failure}
 use Rattle.ir_tree.specs.declared.failure.Failure.TheVariants as errors
@@ -39,6 +39,13 @@ module _ {T A : Type 0} (one : Reader T A) (rest : Reader T (List A)) where
   turn_fails errors.NoMemory front ts total h so_far = tt
   turn_fails (errors.Fault d) front ts total h so_far = sym so_far ∙ ap (λ (r : Result (A × List T) Fault). with_front front (follow r (λ b. rest >>= λ more. done (b ∷ more)))) h
 
+pub last_is_first : {A : Type 0} (xs ys : List A) (x : A) → ys ≡ xs ++ x ∷ [] → reverse ys ≡ x ∷ reverse xs
+last_is_first xs ys x e = ap reverse e ∙ reverse-append xs (x ∷ [])
+
 -- the same reading, written otherwise
 pub gives_as : {X Y : Type 0} (view : X → Y) (x : Result X (Failure Fault)) (r r' : Result Y Fault) → r ≡ r' → Returns view x r → Returns view x r'
 gives_as {Y = Y} view x r r' e h = subst (λ (y : Result Y Fault). Returns view x y) e h
+
+-- what was read is given back
+pub given : {X Y : Type 0} (view : X → Y) (result : Result X (Failure Fault)) (x : X) (read : Result Y Fault) → result ≡ Ok x → read ≡ Ok (view x) → Returns view result read
+given view result x read e h = subst (λ r. Returns view r read) (sym e) h

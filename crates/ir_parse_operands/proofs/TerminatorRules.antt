@@ -1,5 +1,6 @@
 -- The readers of terminators read them.
 use Rattle.std.proofs.Common.{◌≡◌, ℕ, Bool, true, false, cond, Option, Some, None, option_map, List, [], ◌∷◌, refl, sym, ap}
+use Rattle.std.proofs.lemmas.Bool.{false≢true}
 use Rattle.std.specs.Prelude.{codes}
 use Rattle.ir_lex.specs.Bytes.{has}
 use Rattle.ir_lex.specs.declared.token_kind.TokenKind.{TokenKind}
@@ -66,7 +67,10 @@ zero_matches w = ap (λ (b : Bool). option_map (matched w) (cond b (Some 0) None
 constant_within : (r : Reg) (h : TokenKind) (t : Tok) → t.kind ≡ h → contains (case_classes r) (number h) ≡ true → matched_by h r t ≡ None → IsWithin tokens (case_classes r) (matched_of r) t
 constant_within (Int w) kinds.Number t e p q = record { writes = ap (λ (x : TokenKind). contains NUMERALS (number x)) e; other = zero; means = matched w 0; alike = sym (ap number e); has = zero_matches w; real = zero_real }
 constant_within Ptr kinds.Number t e p q = absurd cc
-constant_within r h t e p q = absurd cc
+constant_within r kinds.True t e p q = absurd cc
+constant_within r kinds.False t e p q = absurd cc
+constant_within (Int w) h t e p q = absurd (false≢true p)
+constant_within Ptr h t e p q = absurd (false≢true p)
 
 pub constant_rule : (r : Reg) → Rule tokens (constant r) (constant r) (constant_at r) (number kinds.Number ∷ WORDS_OF_BITS) [] false
 constant_rule (Int w) = rules.valued_rule tokens refusal not_number not_limit (case_classes (Int w)) (matched_of (Int w)) (λ t p q. constant_within (Int w) t.kind t refl p q) (word kinds.True (codes "true")) (matched 1 1) refl refl true_real

@@ -262,7 +262,7 @@ impl Room {
     }
 
     /// Room for a member of a structure behind others.
-    #[tactic(auto, using(crate::proofs::ExtentLaws::left_room, crate::proofs::ExtentLaws::fits_most))]
+    #[tactic(auto, using(crate::proofs::ExtentLaws::fits_most))]
     pub fn left(self, packed: bool, members: Extent) -> Room
         requires room { IsRoom self }
         requires fits { Fits self members }

@@ -2,12 +2,14 @@
 //! may nest and how large it may be is handed down to its parts, so the first token that passes a
 //! limit is refused.
 
-ghost use Rattle.std.specs.Prelude.{◌≡◌, ◌*◌, ◌≤◌, [], ◌∷◌, ◌++◌, IfOk};
+ghost use Rattle.std.specs.Prelude.{◌≡◌, ◌*◌, ◌≤◌, true, [], ◌∷◌, ◌++◌, IfOk};
 ghost use Rattle.ir_lex.specs.TokenKinds.{number};
 ghost use Rattle.ir_lex.specs.Tok.{tok};
 ghost use Rattle.ir_parse_parts.specs.Readers.{Returns, view_result};
 ghost use Rattle.ir_parse_parts.specs.Rules.{is_valued};
+ghost use Rattle.ir_parse_parts.specs.Alphabet.{among};
 ghost use Rattle.ir_parse_parts.specs.Classes.{tokens, refusal, one_of_at};
+ghost use Rattle.ir_parse_parts.specs.Operands.{SCALAR};
 ghost use Rattle.ir_parse_operands.specs.declared.extents.Room.{Room};
 ghost use Rattle.ir_parse_operands.specs.Extents.{Fits, IsRoom, extent, extent_of, grown, left, members_extent, no_bytes, scalar_extent, whole};
 ghost use Rattle.ir_parse_parts.specs.Literals.{IsWidth};
@@ -57,6 +59,23 @@ fn scalar_of(t: &Token) -> Measured
     }
 }
 
+/// The scalar that a token writes, where there is room for it.
+#[tactic(auto, unfolding(crate::specs::ShapeForms::leaf_means, crate::specs::ShapeForms::is_leaf))]
+fn scalar_within(room: Room, t: &Token) -> Result<Measured, TokenFault>
+    requires room { IsRoom room }
+    requires scalar { among tokens SCALAR (tok t.now) ≡ true }
+    ensures exact { view_result (λ x. x.typed) result ≡ leaf_means room (tok t.now) }
+    ensures measured { IfOk result (λ x. x.extent ≡ extent_of x.typed.shape) }
+    ensures fits { IfOk result (λ x. Fits room x.extent) }
+{
+    let scalar = scalar_of(t);
+    if room.room_for(scalar.extent.align) > 1 {
+        Ok(scalar)
+    } else {
+        Err(TokenFault::Limit)
+    }
+}
+
 /// What a token means where a scalar or a type name may stand.
 #[tactic(auto, unfolding(crate::specs::ShapeForms::leaf_means, crate::specs::ShapeForms::is_leaf, ir_parse_parts::specs::Rules::is_valued))]
 fn leaf_means(
@@ -69,27 +88,22 @@ fn leaf_means(
     ensures measured { IfOk result (λ means. IfOk means (λ x. x.extent ≡ extent_of x.typed.shape)) }
     ensures fits { IfOk result (λ means. IfOk means (λ x. Fits room x.extent)) }
 {
-    match t.kind {
-        TokenKind::MemoryInteger | TokenKind::Ptr => {
-            let scalar = scalar_of(t);
-            if room.room_for(scalar.extent.align) > 1 {
-                Ok(Ok(scalar))
-            } else {
-                Ok(Err(TokenFault::Limit))
-            }
-        }
-        TokenKind::Local => match named(alloc, t)? {
-            None => Ok(Err(TokenFault::Number)),
-            Some(name) => Ok(Ok(Measured {
-                typed: Typed {
-                    shape: WrittenShape::named(name),
-                    line: t.line,
-                },
-                extent: Extent::no_bytes(),
-            })),
-        },
-        head => Ok(Err(memory_refusal(head))),
+    if t.kind.is(TokenKind::MemoryInteger) || t.kind.is(TokenKind::Ptr) {
+        return Ok(scalar_within(room, t));
     }
+    if !t.kind.is(TokenKind::Local) {
+        return Ok(Err(memory_refusal(t.kind)));
+    }
+    let Some(name) = named(alloc, t)? else {
+        return Ok(Err(TokenFault::Number));
+    };
+    Ok(Ok(Measured {
+        typed: Typed {
+            shape: WrittenShape::named(name),
+            line: t.line,
+        },
+        extent: Extent::no_bytes(),
+    }))
 }
 
 /// Takes a scalar or a type name.
@@ -186,9 +200,10 @@ pub fn line_at(wanted: TokenKind, tokens: &mut Tokens) -> Result<u32, ReaderErro
 pub fn angle_refusal(head: TokenKind) -> TokenFault
     ensures { result ≡ angle_refusal (number head) }
 {
-    match head {
-        TokenKind::Number => TokenFault::Profile,
-        _ => refusal(head),
+    if head.is(TokenKind::Number) {
+        TokenFault::Profile
+    } else {
+        refusal(head)
     }
 }
 

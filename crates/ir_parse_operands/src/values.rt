@@ -3,7 +3,8 @@
 
 ghost use Rattle.std.specs.Prelude.{◌≡◌, reverse, IfOk};
 ghost use Rattle.ir_lex.specs.Tok.{tok};
-ghost use Rattle.ir_parse_parts.specs.Alphabet.{among};
+ghost use Rattle.ir_lex.specs.TokenKinds.{number};
+ghost use Rattle.ir_parse_parts.specs.Alphabet.{among, contains};
 ghost use Rattle.ir_parse_parts.specs.Readers.{Returns};
 ghost use Rattle.ir_parse_parts.specs.Rules.{is_valued};
 ghost use Rattle.ir_parse_parts.specs.Ahead.{STEPPING};
@@ -60,14 +61,18 @@ fn flag_at(tokens: &mut Tokens) -> Result<bool, ReaderError>
             left,
             kind: TokenFault::Syntax,
         })),
-        Some(t) => match t.kind {
-            TokenKind::Inbounds => Ok(true),
-            TokenKind::Nuw | TokenKind::Nusw => Ok(false),
-            head => Err(ReaderError::Fault(Fault {
-                left,
-                kind: refusal(head),
-            })),
-        },
+        Some(t) => {
+            if t.kind.is(TokenKind::Inbounds) {
+                Ok(true)
+            } else if t.kind.is(TokenKind::Nuw) || t.kind.is(TokenKind::Nusw) {
+                Ok(false)
+            } else {
+                Err(ReaderError::Fault(Fault {
+                    left,
+                    kind: refusal(t.kind),
+                }))
+            }
+        }
     }
 }
 
@@ -208,18 +213,25 @@ fn all_openings_at(alloc: Global, tokens: &mut Tokens) -> Result<Vec<Typed>, Rea
     Ok(levels)
 }
 
+/// Whether such a token is the name of a global.
+fn is_global(kind: TokenKind) -> bool
+    ensures { result ≡ contains GLOBAL (number kind) }
+{
+    kind.is(TokenKind::Global)
+        || kind.is(TokenKind::NumberedGlobal)
+        || kind.is(TokenKind::NumberedDefinition)
+}
+
 #[tactic(auto, unfolding(ir_parse_parts::specs::Rules::is_valued))]
 fn global_means(alloc: Global, t: &Token) -> Result<Result<Name, TokenFault>, AllocError>
     ensures { IfOk result (λ x. x ≡ is_valued tokens refusal GLOBAL global_named (tok t.now)) }
 {
-    match t.kind {
-        TokenKind::Global | TokenKind::NumberedGlobal | TokenKind::NumberedDefinition => {
-            match global_named(alloc, t)? {
-                None => Ok(Err(TokenFault::Number)),
-                Some(name) => Ok(Ok(name)),
-            }
-        }
-        head => Ok(Err(refusal(head))),
+    if !is_global(t.kind) {
+        return Ok(Err(refusal(t.kind)));
+    }
+    match global_named(alloc, t)? {
+        None => Ok(Err(TokenFault::Number)),
+        Some(name) => Ok(Ok(name)),
     }
 }
 

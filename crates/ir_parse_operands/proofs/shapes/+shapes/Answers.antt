@@ -96,3 +96,15 @@ pub shape_at-returns-in_ok-members-in-Structure-clause-exact : goal.shape_at-ret
 shape_at-returns-in_ok-members-in-Structure-clause-exact t c =
     gives_as _ _ _ _ (sym (structure_gives c.args.depth c.args.room c.args.tokens.now c.if-not-comes_bracket.ensures c.in_ok-line.field-0 _ c.in_ok-line.ensures.exact c.in-Structure.packed c.in-Structure.line c.in-Structure.is c.in_ok-members-in-Structure.members.shapes.items _
     c.in_ok-members-in-Structure.ensures.exact)) c.closed_structure_at.ensures.exact
+
+pub inner_at-with_member-requires-clause-before : goal.inner_at-with_member-requires-clause-before
+inner_at-with_member-requires-clause-before t c = fits_most c.args.room c.each.members.extent c.requires c.each.invariant.fits
+
+pub inner_at-with_member-requires-clause-more : goal.inner_at-with_member-requires-clause-more
+inner_at-with_member-requires-clause-more t c = fits_most c.left.result c.in_ok-member.member.extent c.left.ensures.room c.in_ok-member.ensures.fits
+
+pub shape_at-closed_structure_at-requires-clause-size : goal.shape_at-closed_structure_at-requires-clause-size
+shape_at-closed_structure_at-requires-clause-size t c = fits_most c.args.room c.in_ok-members-in-Structure.members.extent c.requires c.in_ok-members-in-Structure.ensures.fits
+
+pub shape_at-returns-in_ok-members-in-Structure-clause-fits : goal.shape_at-returns-in_ok-members-in-Structure-clause-fits
+shape_at-returns-in_ok-members-in-Structure-clause-fits t c = c.closed_structure_at.ensures.fits c.args.room c.in_ok-members-in-Structure.ensures.fits
