@@ -5,7 +5,7 @@ ghost use Rattle.lto_fault.specs.Texts.{cause_text, refusal_text, rule_text, tar
 ghost use Rattle.lto_outside.specs.Seen.{stream_seen};
 ghost use Rattle.lto_fault.specs.Pushing.{Hears, Pushes, joined, note_of};
 ghost use Rattle.lto_fault.specs.Parts.{fault_words, kind_word, kind_words};
-ghost use Rattle.lto_fault.specs.declared.refusal.Refusal.TheVariants.{OutOfSteps, Refused, TargetClash};
+ghost use Rattle.lto_fault.specs.declared.refusal.Refusal.TheVariants.{DuplicateSymbol, KindClash, OutOfSteps, Refused, TargetClash, Undefined, UndefinedSymbol, Uninit};
 
 use crate::kind::RefusalKind;
 use crate::parts::{push_all, push_eight, push_three};
@@ -233,15 +233,110 @@ fn push_steps<N: ByteOut>(out: &mut N, steps: u64) -> bool
     push_three(out, b"thinlto: out of steps after ", number, b"\n")
 }
 
+/// A file behind these words.
+fn push_file<'a, N: ByteOut>(out: &mut N, words: &'a [u8], name: &'a Text) -> bool
+    ensures pushed { Pushes (stream_seen N.sent N.faults out.old out.new) (words.now ++ (name.now ++ codes "\n")) result }
+    ensures later { N.faults out.old ≤ N.faults out.new }
+{
+    push_three(out, words, name.as_slice(), b"\n")
+}
+
+/// A symbol that two files define.
+fn push_duplicate<N: ByteOut>(out: &mut N, name: &Text, first: &Text, second: &Text) -> bool
+    ensures pushed { Pushes (stream_seen N.sent N.faults out.old out.new) (refusal_text (DuplicateSymbol name.now first.now second.now)) result }
+    ensures later { N.faults out.old ≤ N.faults out.new }
+{
+    push_both(
+        out,
+        b"thinlto: duplicate symbol @",
+        name,
+        b" in ",
+        first,
+        b" and ",
+        second,
+    )
+}
+
+/// A symbol that is a function in one file and a variable in another.
+fn push_kinds<N: ByteOut>(out: &mut N, name: &Text, function: &Text, variable: &Text) -> bool
+    ensures pushed { Pushes (stream_seen N.sent N.faults out.old out.new) (refusal_text (KindClash name.now function.now variable.now)) result }
+    ensures later { N.faults out.old ≤ N.faults out.new }
+{
+    push_both(
+        out,
+        b"thinlto: @",
+        name,
+        b" is a function in ",
+        function,
+        b" and a variable in ",
+        variable,
+    )
+}
+
+/// A symbol that nobody defines, and a file that refers to it.
+fn push_unknown<N: ByteOut>(out: &mut N, name: &Text, file: &Text) -> bool
+    ensures pushed { Pushes (stream_seen N.sent N.faults out.old out.new) (refusal_text (UndefinedSymbol name.now file.now)) result }
+    ensures later { N.faults out.old ≤ N.faults out.new }
+{
+    push_named(
+        out,
+        b"thinlto: undefined symbol @",
+        name,
+        b" in ",
+        file.as_slice(),
+        b"\n",
+        b"",
+        b"",
+        b"",
+        b"",
+    )
+}
+
+/// Where a run reached undefined behaviour, and why.
+fn push_undefined<N: ByteOut>(
+    out: &mut N,
+    function: &Text,
+    file: &Text,
+    instruction: u64,
+    cause: Cause,
+) -> bool
+    ensures pushed { Pushes (stream_seen N.sent N.faults out.old out.new) (refusal_text (Undefined function.now file.now instruction cause)) result }
+    ensures later { N.faults out.old ≤ N.faults out.new }
+{
+    push_place(
+        out,
+        b"thinlto: undefined behaviour in @",
+        function,
+        file,
+        instruction,
+        b": ",
+        cause_words(cause),
+    )
+}
+
+/// Where a run read an uninitialised byte.
+fn push_uninit<N: ByteOut>(out: &mut N, function: &Text, file: &Text, instruction: u64) -> bool
+    ensures pushed { Pushes (stream_seen N.sent N.faults out.old out.new) (refusal_text (Uninit function.now file.now instruction)) result }
+    ensures later { N.faults out.old ≤ N.faults out.new }
+{
+    push_place(
+        out,
+        b"thinlto: uninitialised byte read in @",
+        function,
+        file,
+        instruction,
+        b"",
+        b"",
+    )
+}
+
 pub(crate) fn push_refusal<N: ByteOut>(out: &mut N, refusal: &Refusal) -> bool
     ensures pushed { Pushes (stream_seen N.sent N.faults out.old out.new) (refusal_text refusal.now) result }
     ensures later { N.faults out.old ≤ N.faults out.new }
 {
     match refusal {
         Refusal::Usage => push_all(out, b"thinlto: usage\n"),
-        Refusal::ReadFault { name } => {
-            push_three(out, b"thinlto: cannot read ", name.as_slice(), b"\n")
-        }
+        Refusal::ReadFault { name } => push_file(out, b"thinlto: cannot read ", name),
         Refusal::Refused { file, line, kind } => push_refused(out, file, *line, kind),
         Refusal::TargetClash {
             target,
@@ -252,76 +347,31 @@ pub(crate) fn push_refusal<N: ByteOut>(out: &mut N, refusal: &Refusal) -> bool
             name,
             first,
             second,
-        } => push_both(
-            out,
-            b"thinlto: duplicate symbol @",
-            name,
-            b" in ",
-            first,
-            b" and ",
-            second,
-        ),
+        } => push_duplicate(out, name, first, second),
         Refusal::KindClash {
             name,
             function,
             variable,
-        } => push_both(
-            out,
-            b"thinlto: @",
-            name,
-            b" is a function in ",
-            function,
-            b" and a variable in ",
-            variable,
-        ),
-        Refusal::UndefinedSymbol { name, file } => push_named(
-            out,
-            b"thinlto: undefined symbol @",
-            name,
-            b" in ",
-            file.as_slice(),
-            b"\n",
-            b"",
-            b"",
-            b"",
-            b"",
-        ),
+        } => push_kinds(out, name, function, variable),
+        Refusal::UndefinedSymbol { name, file } => push_unknown(out, name, file),
         Refusal::NoExport { name } => {
             push_symbol(out, b"thinlto: no definition of exported @", name)
         }
         Refusal::NameTaken { name } => push_symbol(out, b"thinlto: name taken: @", name),
         Refusal::BadArguments { name } => push_symbol(out, b"thinlto: wrong arguments for @", name),
-        Refusal::WriteFault { name } => {
-            push_three(out, b"thinlto: cannot write ", name.as_slice(), b"\n")
-        }
+        Refusal::WriteFault { name } => push_file(out, b"thinlto: cannot write ", name),
         Refusal::NoMemory => push_all(out, b"thinlto: out of memory\n"),
         Refusal::Undefined {
             function,
             file,
             instruction,
             cause,
-        } => push_place(
-            out,
-            b"thinlto: undefined behaviour in @",
-            function,
-            file,
-            *instruction,
-            b": ",
-            cause_words(*cause),
-        ),
+        } => push_undefined(out, function, file, *instruction, *cause),
         Refusal::Uninit {
             function,
             file,
             instruction,
-        } => push_place(
-            out,
-            b"thinlto: uninitialised byte read in @",
-            function,
-            file,
-            *instruction,
-            b"",
-            b"",
-        ),
+        } => push_uninit(out, function, file, *instruction),
         Refusal::OutOfSteps { steps } => push_steps(out, *steps),
     }
 }

@@ -3,7 +3,7 @@ use Rattle.lto_fault.specs.Texts.{refusal_text}
 use Rattle.lto_fault.specs.declared.refusal.Refusal.{Refusal}
 use Rattle.lto_outside.specs.Seen.{StreamSeen, stream_seen}
 use Rattle.lto_fault.specs.Pushing.{Pushes}
-use Rattle.lto_fault.proofs.Lines.{bad_arguments_line, duplicate_line, kinds_line, name_taken_line, no_export_line, undefined_line, undefined_symbol_line, uninit_line}
+use Rattle.lto_fault.proofs.Lines.{bad_arguments_line, name_taken_line, no_export_line}
 use Rattle.lto_fault.proofs.line.push_refusal.Goals as goal
 
 told : (stream : StreamSeen) (whole : Bool) (refusal other : Refusal) (text : List ℕ) → refusal ≡ other → refusal_text other ≡ text → Pushes stream text whole → Pushes stream (refusal_text refusal) whole
@@ -13,7 +13,7 @@ pub returns-in-Usage-clause-pushed : goal.returns-in-Usage-clause-pushed
 returns-in-Usage-clause-pushed g c = told (stream_seen g.N.ByteOut.sent g.N.ByteOut.faults c.args.out.now c.push_all.new.out) c.push_all.result _ _ _ c.in-Usage.is (refl) (c.push_all.ensures.pushed)
 
 pub returns-in-ReadFault-clause-pushed : goal.returns-in-ReadFault-clause-pushed
-returns-in-ReadFault-clause-pushed g c = told (stream_seen g.N.ByteOut.sent g.N.ByteOut.faults c.args.out.now c.push_three.new.out) c.push_three.result _ _ _ c.in-ReadFault.is (refl) (rw (sym c.as_slice.ensures) c.push_three.ensures.pushed)
+returns-in-ReadFault-clause-pushed g c = told (stream_seen g.N.ByteOut.sent g.N.ByteOut.faults c.args.out.now c.push_file.new.out) c.push_file.result _ _ _ c.in-ReadFault.is refl c.push_file.ensures.pushed
 
 pub returns-in-Refused-clause-pushed : goal.returns-in-Refused-clause-pushed
 returns-in-Refused-clause-pushed g c = told (stream_seen g.N.ByteOut.sent g.N.ByteOut.faults c.args.out.now c.push_refused.new.out) c.push_refused.result _ _ _ c.in-Refused.is (refl) (c.push_refused.ensures.pushed)
@@ -22,13 +22,13 @@ pub returns-in-TargetClash-clause-pushed : goal.returns-in-TargetClash-clause-pu
 returns-in-TargetClash-clause-pushed g c = told (stream_seen g.N.ByteOut.sent g.N.ByteOut.faults c.args.out.now c.push_targets.new.out) c.push_targets.result _ _ _ c.in-TargetClash.is (refl) (c.push_targets.ensures.pushed)
 
 pub returns-in-DuplicateSymbol-clause-pushed : goal.returns-in-DuplicateSymbol-clause-pushed
-returns-in-DuplicateSymbol-clause-pushed g c = told (stream_seen g.N.ByteOut.sent g.N.ByteOut.faults c.args.out.now c.push_both.new.out) c.push_both.result _ _ _ c.in-DuplicateSymbol.is (duplicate_line c.in-DuplicateSymbol.name c.in-DuplicateSymbol.first c.in-DuplicateSymbol.second) (c.push_both.ensures.pushed)
+returns-in-DuplicateSymbol-clause-pushed g c = told (stream_seen g.N.ByteOut.sent g.N.ByteOut.faults c.args.out.now c.push_duplicate.new.out) c.push_duplicate.result _ _ _ c.in-DuplicateSymbol.is refl c.push_duplicate.ensures.pushed
 
 pub returns-in-KindClash-clause-pushed : goal.returns-in-KindClash-clause-pushed
-returns-in-KindClash-clause-pushed g c = told (stream_seen g.N.ByteOut.sent g.N.ByteOut.faults c.args.out.now c.push_both-in-KindClash.new.out) c.push_both-in-KindClash.result _ _ _ c.in-KindClash.is (kinds_line c.in-KindClash.name c.in-KindClash.function c.in-KindClash.variable) (c.push_both-in-KindClash.ensures.pushed)
+returns-in-KindClash-clause-pushed g c = told (stream_seen g.N.ByteOut.sent g.N.ByteOut.faults c.args.out.now c.push_kinds.new.out) c.push_kinds.result _ _ _ c.in-KindClash.is refl c.push_kinds.ensures.pushed
 
 pub returns-in-UndefinedSymbol-clause-pushed : goal.returns-in-UndefinedSymbol-clause-pushed
-returns-in-UndefinedSymbol-clause-pushed g c = told (stream_seen g.N.ByteOut.sent g.N.ByteOut.faults c.args.out.now c.push_named.new.out) c.push_named.result _ _ _ c.in-UndefinedSymbol.is (undefined_symbol_line c.in-UndefinedSymbol.name c.in-UndefinedSymbol.file) (rw (sym c.as_slice-in-UndefinedSymbol.ensures) c.push_named.ensures.pushed)
+returns-in-UndefinedSymbol-clause-pushed g c = told (stream_seen g.N.ByteOut.sent g.N.ByteOut.faults c.args.out.now c.push_unknown.new.out) c.push_unknown.result _ _ _ c.in-UndefinedSymbol.is refl c.push_unknown.ensures.pushed
 
 pub returns-in-NoExport-clause-pushed : goal.returns-in-NoExport-clause-pushed
 returns-in-NoExport-clause-pushed g c = told (stream_seen g.N.ByteOut.sent g.N.ByteOut.faults c.args.out.now c.push_symbol.new.out) c.push_symbol.result _ _ _ c.in-NoExport.is (no_export_line c.in-NoExport.name) (c.push_symbol.ensures.pushed)
@@ -40,16 +40,16 @@ pub returns-in-BadArguments-clause-pushed : goal.returns-in-BadArguments-clause-
 returns-in-BadArguments-clause-pushed g c = told (stream_seen g.N.ByteOut.sent g.N.ByteOut.faults c.args.out.now c.push_symbol-in-BadArguments.new.out) c.push_symbol-in-BadArguments.result _ _ _ c.in-BadArguments.is (bad_arguments_line c.in-BadArguments.name) (c.push_symbol-in-BadArguments.ensures.pushed)
 
 pub returns-in-WriteFault-clause-pushed : goal.returns-in-WriteFault-clause-pushed
-returns-in-WriteFault-clause-pushed g c = told (stream_seen g.N.ByteOut.sent g.N.ByteOut.faults c.args.out.now c.push_three-in-WriteFault.new.out) c.push_three-in-WriteFault.result _ _ _ c.in-WriteFault.is (refl) (rw (sym c.as_slice-in-WriteFault.ensures) c.push_three-in-WriteFault.ensures.pushed)
+returns-in-WriteFault-clause-pushed g c = told (stream_seen g.N.ByteOut.sent g.N.ByteOut.faults c.args.out.now c.push_file-in-WriteFault.new.out) c.push_file-in-WriteFault.result _ _ _ c.in-WriteFault.is refl c.push_file-in-WriteFault.ensures.pushed
 
 pub returns-in-NoMemory-clause-pushed : goal.returns-in-NoMemory-clause-pushed
 returns-in-NoMemory-clause-pushed g c = told (stream_seen g.N.ByteOut.sent g.N.ByteOut.faults c.args.out.now c.push_all-in-NoMemory.new.out) c.push_all-in-NoMemory.result _ _ _ c.in-NoMemory.is (refl) (c.push_all-in-NoMemory.ensures.pushed)
 
 pub returns-in-Undefined-clause-pushed : goal.returns-in-Undefined-clause-pushed
-returns-in-Undefined-clause-pushed g c = told (stream_seen g.N.ByteOut.sent g.N.ByteOut.faults c.args.out.now c.push_place.new.out) c.push_place.result _ _ _ c.in-Undefined.is (undefined_line c.in-Undefined.function c.in-Undefined.file c.in-Undefined.instruction c.in-Undefined.cause) (rw (sym c.cause_words.ensures) c.push_place.ensures.pushed)
+returns-in-Undefined-clause-pushed g c = told (stream_seen g.N.ByteOut.sent g.N.ByteOut.faults c.args.out.now c.push_undefined.new.out) c.push_undefined.result _ _ _ c.in-Undefined.is refl c.push_undefined.ensures.pushed
 
 pub returns-in-Uninit-clause-pushed : goal.returns-in-Uninit-clause-pushed
-returns-in-Uninit-clause-pushed g c = told (stream_seen g.N.ByteOut.sent g.N.ByteOut.faults c.args.out.now c.push_place-in-Uninit.new.out) c.push_place-in-Uninit.result _ _ _ c.in-Uninit.is (uninit_line c.in-Uninit.function c.in-Uninit.file c.in-Uninit.instruction) (c.push_place-in-Uninit.ensures.pushed)
+returns-in-Uninit-clause-pushed g c = told (stream_seen g.N.ByteOut.sent g.N.ByteOut.faults c.args.out.now c.push_uninit.new.out) c.push_uninit.result _ _ _ c.in-Uninit.is refl c.push_uninit.ensures.pushed
 
 pub returns-in-OutOfSteps-clause-pushed : goal.returns-in-OutOfSteps-clause-pushed
 returns-in-OutOfSteps-clause-pushed g c = told (stream_seen g.N.ByteOut.sent g.N.ByteOut.faults c.args.out.now c.push_steps.new.out) c.push_steps.result _ _ _ c.in-OutOfSteps.is (refl) (c.push_steps.ensures.pushed)
