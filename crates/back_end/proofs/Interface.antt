@@ -18,7 +18,7 @@ use Rattle.dead_code.specs.Least.{IsNeededOf}
 use Rattle.ir_facts.specs.Settled.{settled, settled_block}
 use Rattle.ir_facts.specs.Steps.{AreRounds, IsApplied, IsRound, IsStep, ends_of}
 use Rattle.slot_promote.specs.Promoted.{blocks_with, end_at, first_at, next_number, promoted_function}
-use Rattle.slot_promote.specs.Slots.{promoted_slots}
+use Rattle.promotable_slots.specs.Slots.{promoted_slots}
 use Rattle.slot_promote.specs.Values.{placed}
 use Rattle.inline_site.specs.Inlined.{IsInlined}
 use Rattle.inline_site.specs.Laws.{InlinedKeepsInterface, IsSameButBlocks}

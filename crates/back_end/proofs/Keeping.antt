@@ -34,7 +34,7 @@ use Rattle.dead_code.specs.Least.{IsNeededOf}
 use Rattle.ir_facts.specs.Settled.{choice_of, frozen_as, settled, settled_block, settled_instr, settled_line}
 use Rattle.ir_facts.specs.Steps.{AreRounds, IsRound, IsStep, candidate_of, end_of, ends_of}
 use Rattle.slot_promote.specs.Promoted.{End, blocks_with, end_at, end_with, entries_of, first_at, new_phis, next_number, phis_from, promoted_function}
-use Rattle.slot_promote.specs.Slots.{promoted_slots}
+use Rattle.promotable_slots.specs.Slots.{promoted_slots}
 use Rattle.slot_promote.specs.Values.{at_start, behind_line, fetches, goes, instr_with, is_there, load_with, makes, placed, reg_of, regs, use_of, without_slots, writes}
 use Rattle.slot_promote.specs.Values as slots
 use Rattle.ir_meaning.specs.Counted.{sources, times}

@@ -24,7 +24,7 @@ use Rattle.ir_edit.proofs.Tally.{tally, tally_both, tally_once}
 use Rattle.slot_promote.specs.Promoted.{End, end_at, first_at, new_phis, next_number, phis_from, promoted_with}
 use Rattle.slot_promote.specs.Values.{at_start, behind_line, behind_lines, goes, is_there, placed, rank_of, reg_of, regs, use_of, value_at_start, without_slots}
 use Rattle.slot_promote.specs.declared.slots.SlotRank.{SlotRank}
-use Rattle.slot_promote.specs.declared.slots.Slot.{Slot}
+use Rattle.promotable_slots.specs.declared.slots.Slot.{Slot}
 use Rattle.slot_promote.proofs.Facts.{in_block, in_lines}
 use Rattle.slot_promote.proofs.Lines.{AllTidy, Tidy, both, line_with}
 use Rattle.slot_promote.proofs.Once.{news, once_stays}

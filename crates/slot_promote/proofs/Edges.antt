@@ -13,7 +13,7 @@ use Rattle.ir_flow.proofs.Reaching.{edge-from}
 use Rattle.ir_meaning.proofs.Counting.{numbers_in, place_is}
 use Rattle.slot_promote.specs.Promoted.{End, end_at, end_with, entries_of, first_at, first_phi, free, new_phis, phis_from, takes}
 use Rattle.slot_promote.specs.Values.{placed}
-use Rattle.slot_promote.specs.declared.slots.Slot.{Slot}
+use Rattle.promotable_slots.specs.declared.slots.Slot.{Slot}
 use Rattle.ir_tree.specs.Rules.{place}
 
 -- ---- numbers

@@ -11,9 +11,9 @@ use Rattle.ir_tree.specs.declared.operand.Reg.{Reg}
 use Rattle.ir_tree.specs.declared.operand.Reg.TheVariants.{Int, Ptr}
 use Rattle.ir_meaning.specs.Execute.{reg_eq}
 use Rattle.ir_meaning.proofs.Everywhere.{all_back, all_front}
-use Rattle.slot_promote.specs.Slots.{is_access, is_accessed_as}
-use Rattle.slot_promote.specs.Uses.{block_uses, end_uses, instr_uses, line_uses, operand_uses, phi_uses, uses}
-use Rattle.slot_promote.specs.declared.uses.Use.{Use}
+use Rattle.promotable_slots.specs.Slots.{is_access, is_accessed_as}
+use Rattle.promotable_slots.specs.Uses.{block_uses, end_uses, instr_uses, line_uses, operand_uses, phi_uses, uses}
+use Rattle.promotable_slots.specs.declared.uses.Use.{Use}
 use Rattle.slot_promote.proofs.Tests.{and_left, and_right}
 use Rattle.std.proofs.lemmas.Bool.{and_from as and_both, eq-eqb, eqb-true}
 

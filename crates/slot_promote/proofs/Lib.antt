@@ -3,7 +3,6 @@ pub mod Before
 pub mod Carried
 pub mod Edges
 pub mod Facts
-pub mod Finding
 pub mod Lines
 pub mod Loops
 mod NoSlots

@@ -18,29 +18,14 @@ use Rattle.ir_flow.specs.Graph.{row}
 use Rattle.ir_flow.specs.OfFunction.{IsGraphOf}
 use Rattle.ir_meaning.specs.Promote.{Current, Makes, Other, Writes, behind, changed}
 use Rattle.slot_promote.specs.Promoted.{End, block_with, blocks_with, end_with, ends_with, entries_of, entry_of, first_phi, free, next_number, phis_from, promoted_function, takes}
-use Rattle.slot_promote.specs.Slots.{is_accessed_as, promotable, promoted_slots}
+use Rattle.promotable_slots.specs.Slots.{promoted_slots}
 use Rattle.slot_promote.specs.Tables.{end_view, ends_in, first_in, viewed}
 use Rattle.slot_promote.specs.Values.{behind_line, behind_lines, goes, instr_with, is_there, makes, reg_of, regs, placed, without_slots, writes}
 use Rattle.slot_promote.specs.declared.phis.BlockEnd.{BlockEnd}
 use Rattle.slot_promote.specs.declared.slots.SlotRank.{SlotRank}
-use Rattle.slot_promote.specs.declared.slots.Slot.{Slot}
-use Rattle.slot_promote.specs.declared.uses.Use.{Use}
+use Rattle.promotable_slots.specs.declared.slots.Slot.{Slot}
 
 -- ---- slots
-
-pub slot_kept : (us : List Use) (slots : List Slot) (i : ℕ) (d : Slot) (kept more : List Slot) → i < length slots → is_accessed_as (get_or slots i d).reg (get_or slots i d).local us ≡ true → more ≡ kept ++ get_or slots i d ∷ []
-    → more ++ promotable us (drop (i + 1) slots) ≡ kept ++ promotable us (drop i slots)
-slot_kept us slots i d kept more lt allowed pushed =
-    ap (λ l. l ++ promotable us (drop (i + 1) slots)) pushed
-    ∙ append_assoc kept (get_or slots i d ∷ []) (promotable us (drop (i + 1) slots))
-    ∙ ap (λ (b : Bool). kept ++ (if b then get_or slots i d ∷ promotable us (drop (i + 1) slots) else promotable us (drop (i + 1) slots))) (sym allowed)
-    ∙ ap (λ l. kept ++ promotable us l) (sym (drop_more slots i d lt))
-
-pub slot_left : (us : List Use) (slots : List Slot) (i : ℕ) (d : Slot) (kept : List Slot) → i < length slots → is_accessed_as (get_or slots i d).reg (get_or slots i d).local us ≡ false
-    → kept ++ promotable us (drop (i + 1) slots) ≡ kept ++ promotable us (drop i slots)
-slot_left us slots i d kept lt refused =
-    ap (λ (b : Bool). kept ++ (if b then get_or slots i d ∷ promotable us (drop (i + 1) slots) else promotable us (drop (i + 1) slots))) (sym refused)
-    ∙ ap (λ l. kept ++ promotable us l) (sym (drop_more slots i d lt))
 
 cond_if : {X : Type 0} (b : Bool) (x y : X) → cond b x y ≡ (if b then x else y)
 cond_if true x y = refl

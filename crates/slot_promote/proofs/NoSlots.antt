@@ -10,10 +10,10 @@ use Rattle.ir_tree.specs.declared.operand.Operand.{Operand}
 use Rattle.ir_tree.specs.declared.operand.Operand.TheVariants.{Local, Null, Number, Poison, Symbol}
 use Rattle.ir_meaning.specs.Promote.{Current}
 use Rattle.slot_promote.specs.Promoted.{End, blocks_with, end_at, first_at, new_phis, next_number, promoted_function, promoted_with}
-use Rattle.slot_promote.specs.Slots.{promoted_slots}
+use Rattle.promotable_slots.specs.Slots.{promoted_slots}
 use Rattle.slot_promote.specs.Values.{at_start, behind_line, goes, instr_with, is_slot, load_with, local_goes, without_slots}
 use Rattle.slot_promote.specs.declared.slots.SlotRank.{SlotRank}
-use Rattle.slot_promote.specs.declared.slots.Slot.{Slot}
+use Rattle.promotable_slots.specs.declared.slots.Slot.{Slot}
 
 abbrev none : ℕ → Option SlotRank
 none x = None

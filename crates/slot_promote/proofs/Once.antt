@@ -10,7 +10,7 @@ use Rattle.ir_tree.specs.declared.instr.Phi.{Phi}
 use Rattle.ir_edit.proofs.Tally.{distinct_by, tally, tally_both, tally_once}
 use Rattle.slot_promote.specs.Promoted.{End, end_at, first_at, free, new_phis, next_number, phis_from, promoted_with, takes}
 use Rattle.slot_promote.specs.Values.{at_start, placed}
-use Rattle.slot_promote.specs.declared.slots.Slot.{Slot}
+use Rattle.promotable_slots.specs.declared.slots.Slot.{Slot}
 use Rattle.slot_promote.proofs.Edges.{has_room}
 use Rattle.slot_promote.proofs.Lines.{phis_tally, results_less}
 use Rattle.slot_promote.proofs.Shapes.{numbers_stay, promoted_at, promoted_from}

@@ -9,7 +9,7 @@ use Rattle.ir_tree.specs.declared.instr.Line.{Line}
 use Rattle.ir_meaning.specs.Promote.{Current}
 use Rattle.slot_promote.specs.Promoted.{first_at, promoted_with}
 use Rattle.slot_promote.specs.Values.{at_start, behind_lines, is_there, placed, without_slots}
-use Rattle.slot_promote.specs.declared.slots.Slot.{Slot}
+use Rattle.promotable_slots.specs.declared.slots.Slot.{Slot}
 use Rattle.slot_promote.proofs.Edges.{has_room}
 use Rattle.slot_promote.proofs.Lines.{AllTidy, both, phis_before, phis_behind, results_stay, taken, tidy_front}
 use Rattle.slot_promote.proofs.Once.{news}

@@ -34,9 +34,9 @@ use Rattle.ir_meaning.proofs.Everywhere.{all_among}
 use Rattle.ir_meaning.proofs.Exits.{number_found}
 use Rattle.slot_promote.specs.Laws.{PromotedIsBetter, longest}
 use Rattle.slot_promote.specs.Promoted.{block_with, blocks_with, end_at, end_with, entries_of, first_at, free, new_phis, next_number, phis_from, promoted_with}
-use Rattle.slot_promote.specs.Slots.{promoted_slots}
+use Rattle.promotable_slots.specs.Slots.{promoted_slots}
 use Rattle.slot_promote.specs.Values.{at_start, behind_line, behind_lines, is_there, placed, rank_of, reg_of, regs, use_of, value_at_start, without_slots}
-use Rattle.slot_promote.specs.declared.slots.Slot.{Slot}
+use Rattle.promotable_slots.specs.declared.slots.Slot.{Slot}
 use Rattle.slot_promote.proofs.Agreeing.{Agree, agreeing_better, find_is, target_reached}
 use Rattle.slot_promote.proofs.Before.{tally_held}
 use Rattle.slot_promote.proofs.Edges.{end_number, entry_found, first_above, has_room, news_new, one_end, phi_takes, phi_there, takes_there}

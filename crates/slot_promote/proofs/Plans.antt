@@ -34,12 +34,12 @@ use Rattle.ir_meaning.proofs.Everywhere.{all_front}
 use Rattle.ir_edit.proofs.Tally.{tally, tally_both}
 use Rattle.slot_promote.specs.Laws.{longest}
 use Rattle.slot_promote.specs.Promoted.{end_at, first_at, new_phis}
-use Rattle.slot_promote.specs.Slots.{is_accessed_as, scalar}
-use Rattle.slot_promote.specs.Uses.{argument_uses, end_uses, entry_uses, instr_uses, operand_uses, phi_uses, uses}
+use Rattle.promotable_slots.specs.Slots.{is_accessed_as, scalar}
+use Rattle.promotable_slots.specs.Uses.{argument_uses, end_uses, entry_uses, instr_uses, operand_uses, phi_uses, uses}
 use Rattle.slot_promote.specs.Values.{at_start, behind_line, behind_lines, fetches, is_there, makes, placed, reg_of, regs, use_of, writes}
 use Rattle.slot_promote.specs.declared.slots.SlotRank.{SlotRank}
-use Rattle.slot_promote.specs.declared.slots.Slot.{Slot}
-use Rattle.slot_promote.specs.declared.uses.Use.{Use as Used}
+use Rattle.promotable_slots.specs.declared.slots.Slot.{Slot}
+use Rattle.promotable_slots.specs.declared.uses.Use.{Use as Used}
 use Rattle.slot_promote.proofs.Before.{not_before, tally_held}
 use Rattle.slot_promote.proofs.Facts.{accessed, at_line, in_block, not_used, used_at_line, used_back, used_front, used_in_block, used_in_lines}
 use Rattle.slot_promote.proofs.Reached.{reached}

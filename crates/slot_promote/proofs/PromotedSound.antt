@@ -28,10 +28,10 @@ use Rattle.ir_meaning.specs.Needed.{AllKept, EdgesKept, EndReads, IsKept, UsesKe
 use Rattle.ir_meaning.specs.Promote.{Current, Fetches, Makes, Other, Use, Writes, chosen_value, put}
 use Rattle.slot_promote.specs.Laws.{PromotedIsSound}
 use Rattle.slot_promote.specs.Promoted.{End, end_at, end_with, entries_of, entry_of, first_at, free, new_phis, next_number, phis_from, promoted_with, takes}
-use Rattle.slot_promote.specs.Slots.{is_accessed_as, promoted_slots, scalar}
-use Rattle.slot_promote.specs.Uses.{entry_uses, phi_uses}
+use Rattle.promotable_slots.specs.Slots.{is_accessed_as, promoted_slots, scalar}
+use Rattle.promotable_slots.specs.Uses.{entry_uses, phi_uses}
 use Rattle.slot_promote.specs.Values.{at_start, behind_line, behind_lines, goes, is_there, placed, reg_of, regs, use_of, without_slots}
-use Rattle.slot_promote.specs.declared.slots.Slot.{Slot}
+use Rattle.promotable_slots.specs.declared.slots.Slot.{Slot}
 use Rattle.slot_promote.proofs.Carried.{AllGood, Good, end_good, behind_both, behind_front, first_good, keep_formed, keep_there, keep_type, moved_step, next_good, tidy}
 use Rattle.slot_promote.proofs.Facts.{in_block, in_end, in_phis, used_front, used_back, used_in_block, used_in_end, used_in_phis}
 use Rattle.slot_promote.proofs.Lines.{line_with}

@@ -4,7 +4,7 @@ use Rattle.std.proofs.lemmas.List.{length-map}
 use Rattle.ir_tree.specs.declared.function.Function.{Function}
 use Rattle.ir_flow.specs.OfFunction.{IsGraphOf, IsReach}
 use Rattle.slot_promote.specs.Promoted.{next_number, promoted_function}
-use Rattle.slot_promote.specs.Slots.{promoted_slots}
+use Rattle.promotable_slots.specs.Slots.{promoted_slots}
 use Rattle.ir_flow.proofs.Reaching.{graph_stays, reach_stays}
 use Rattle.slot_promote.proofs.Shapes.{edges_stay, numbers_stay}
 

@@ -15,7 +15,7 @@ use Rattle.ir_meaning.specs.Promote.{Current, Fetches, Makes, Other, Use, Writes
 use Rattle.slot_promote.specs.Promoted.{block_with, blocks_with, end_at, first_at, promoted_with}
 use Rattle.slot_promote.specs.Values.{fetches, goes, instr_with, is_slot, is_there, load_with, local_goes, makes, placed, reg_of, regs, use_of, writes}
 use Rattle.slot_promote.specs.declared.slots.SlotRank.{SlotRank}
-use Rattle.slot_promote.specs.declared.slots.Slot.{Slot}
+use Rattle.promotable_slots.specs.declared.slots.Slot.{Slot}
 
 -- ---- lines, by what they do with slots
 

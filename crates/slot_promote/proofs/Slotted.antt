@@ -17,12 +17,12 @@ use Rattle.ir_tree.specs.declared.operand.Reg.TheVariants.{Int, Ptr}
 use Rattle.ir_meaning.specs.Bytes.{reg_size}
 use Rattle.ir_meaning.specs.Rules.{IsStorable}
 use Rattle.ir_edit.proofs.Tally.{tally, tally_both, tally_same}
-use Rattle.slot_promote.specs.Slots.{is_accessed_as, limited, line_slots, promotable, promoted_slots, scalar, slot_at, slot_made, slots}
-use Rattle.slot_promote.specs.Uses.{uses}
+use Rattle.promotable_slots.specs.Slots.{is_accessed_as, limited, line_slots, promotable, promoted_slots, scalar, slot_at, slot_made, slots}
+use Rattle.promotable_slots.specs.Uses.{uses}
 use Rattle.slot_promote.specs.Values.{is_there, placed, rank_of, reg_of}
 use Rattle.slot_promote.specs.declared.slots.SlotRank.{SlotRank}
-use Rattle.slot_promote.specs.declared.slots.Slot.{Slot}
-use Rattle.slot_promote.specs.declared.uses.Use.{Use}
+use Rattle.promotable_slots.specs.declared.slots.Slot.{Slot}
+use Rattle.promotable_slots.specs.declared.uses.Use.{Use}
 use Rattle.slot_promote.proofs.Before.{apart, count_in, counted_once, one_block, only_block}
 
 -- ---- the table

@@ -8,10 +8,10 @@ use Rattle.ir_tree.specs.declared.instr.Incoming.{Incoming}
 use Rattle.ir_tree.specs.declared.instr.Phi.{Phi}
 use Rattle.ir_tree.specs.declared.operand.Operand.TheVariants.{Null}
 use Rattle.ir_meaning.specs.Promote.{Current}
-use Rattle.slot_promote.specs.Slots.{promoted_slots}
+use Rattle.promotable_slots.specs.Slots.{promoted_slots}
 use Rattle.slot_promote.specs.Values.{at_start, behind_lines, placed, without_slots}
 use Rattle.slot_promote.specs.declared.slots.SlotRank.{SlotRank}
-use Rattle.slot_promote.specs.declared.slots.Slot.{Slot}
+use Rattle.promotable_slots.specs.declared.slots.Slot.{Slot}
 
 -- ---- the numbers of the new phis
 

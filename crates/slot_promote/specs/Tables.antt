@@ -1,26 +1,15 @@
 -- What tables by number hold.
-use Rattle.std.specs.Prelude.{ℕ, nat_eq, Bool, true, List, Option, Some, None, slice_get, slice_index_or}
+use Rattle.std.specs.Prelude.{ℕ, nat_eq, List, Option, Some, None, slice_get, slice_index_or}
 use Rattle.std.specs.HashMap as hash
 use Rattle.ir_tree.specs.declared.operand.Operand.{Operand}
 use Rattle.ir_tree.specs.declared.operand.Operand.TheVariants.{Null}
-use Rattle.ir_tree.specs.declared.operand.Reg.{Reg}
 use Rattle.ir_meaning.specs.Promote.{Current}
 use Rattle.slot_promote.specs.Promoted.{End}
-use Rattle.slot_promote.specs.Slots.{is_access}
 use Rattle.slot_promote.specs.Values.{value_at_start}
 use Rattle.slot_promote.specs.declared.phis.BlockEnd.{BlockEnd}
-use Rattle.slot_promote.specs.declared.slots.Accesses.{Accesses}
 use Rattle.slot_promote.specs.declared.slots.SlotRank.{SlotRank}
 use Rattle.slot_promote.specs.declared.slots.Slots.{Slots}
 use Rattle.slot_promote.specs.declared.values.Values.{Values}
-
-abbrev pub allowed : Reg → Option (Option Reg) → Bool
-allowed reg None = true
-allowed reg (Some access) = is_access reg access
-
--- each use of the local so far is an access of this type
-abbrev pub allows : Accesses → Reg → ℕ → Bool
-allows a reg x = allowed reg (hash.get nat_eq a.by_local x)
 
 abbrev pub place_in : Slots → ℕ → Option SlotRank
 place_in s x = hash.get nat_eq s.places x

@@ -9,7 +9,7 @@ use Rattle.ir_tree.specs.declared.operand.Reg.{Reg}
 use Rattle.ir_tree.specs.declared.operand.Reg.TheVariants.{Ptr}
 use Rattle.ir_meaning.specs.Promote.{Current, Fetches, Makes, Other, Use, Writes, behind, chosen_value}
 use Rattle.slot_promote.specs.declared.slots.SlotRank.{SlotRank}
-use Rattle.slot_promote.specs.declared.slots.Slot.{Slot}
+use Rattle.promotable_slots.specs.declared.slots.Slot.{Slot}
 
 -- ---- which locals are slots
 

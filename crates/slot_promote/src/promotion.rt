@@ -9,7 +9,7 @@ ghost use Rattle.ir_meaning.specs.Program.{Program};
 ghost use Rattle.ir_meaning.specs.Formed.{IsFormed};
 ghost use Rattle.slot_promote.specs.Laws.{longest};
 ghost use Rattle.slot_promote.specs.Promoted.{block_with, blocks_with, end_with, ends_with, first_phi, promoted_function};
-ghost use Rattle.slot_promote.specs.Slots.{promoted_slots};
+ghost use Rattle.promotable_slots.specs.Slots.{promoted_slots};
 ghost use Rattle.slot_promote.specs.Tables.{end_view, ends_in, first_in, place_in};
 ghost use Rattle.slot_promote.specs.Values.{at_start, placed, without_slots as lines_without};
 

@@ -12,7 +12,7 @@ use Rattle.ir_tree.specs.declared.operand.Argument.{Argument}
 use Rattle.ir_tree.specs.declared.operand.Operand.{Operand}
 use Rattle.ir_tree.specs.declared.operand.Operand.TheVariants.{Local}
 use Rattle.ir_tree.specs.declared.operand.Reg.{Reg}
-use Rattle.slot_promote.specs.declared.uses.Use.{Use}
+use Rattle.promotable_slots.specs.declared.uses.Use.{Use}
 
 -- a use of the operand: as the address of an access of this type, or in another way where there is none
 abbrev pub operand_uses : Option Reg → Operand → List Use

@@ -1,6 +1,6 @@
 //! The uses of locals in a function, in the order of its text.
 ghost use Rattle.std.specs.Prelude.{◌≡◌, ◌++◌, IfOk, OnOk, Some, None};
-ghost use Rattle.slot_promote.specs.Uses.{operand_uses, argument_uses, entry_uses, instr_uses, uses};
+ghost use Rattle.promotable_slots.specs.Uses.{operand_uses, argument_uses, entry_uses, instr_uses, uses};
 
 use ir_edit::{FindUses, push_uses};
 use ir_tree::{Argument, Block, Incoming, Instr, Line, Operand, Phi, Reg};
@@ -9,7 +9,7 @@ use std::alloc::{AllocError, Global};
 /// A use of a local: as the address of a load or a store of the type `access`, or in any other way where that is
 /// `None`.
 #[derive(Clone, Copy)]
-pub(crate) struct Use {
+pub struct Use {
     pub local: u32,
     pub access: Option<Reg>,
 }
@@ -127,7 +127,7 @@ fn push_instr(uses: &mut Vec<Use>, instr: &Instr) -> Result<(), AllocError>
 }
 
 impl FindUses for Use {
-    ghost use Rattle.slot_promote.specs.Uses.{entry_uses, instr_uses, operand_uses};
+    ghost use Rattle.promotable_slots.specs.Uses.{entry_uses, instr_uses, operand_uses};
 
     ghost of_phi = { λ p. entry_uses p.incoming };
 

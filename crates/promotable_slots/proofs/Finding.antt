@@ -7,8 +7,8 @@ use Rattle.ir_tree.specs.declared.block.Terminator.TheVariants.{Branch, Jump, Re
 use Rattle.ir_tree.specs.declared.instr.Line.{Line}
 use Rattle.ir_tree.specs.declared.instr.Phi.{Phi}
 use Rattle.ir_edit.specs.Uses.{block_uses as block_found, blocks_uses, end_uses as end_found}
-use Rattle.slot_promote.specs.Uses.{block_uses, end_uses, entry_uses, instr_uses, line_uses, operand_uses, phi_uses, uses}
-use Rattle.slot_promote.specs.declared.uses.Use.{Use}
+use Rattle.promotable_slots.specs.Uses.{block_uses, end_uses, entry_uses, instr_uses, line_uses, operand_uses, phi_uses, uses}
+use Rattle.promotable_slots.specs.declared.uses.Use.{Use}
 
 abbrev of_phi : Phi → List Use
 of_phi p = entry_uses p.incoming

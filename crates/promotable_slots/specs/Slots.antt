@@ -9,9 +9,9 @@ use Rattle.ir_tree.specs.declared.instr.Line.{Line}
 use Rattle.ir_tree.specs.declared.operand.Reg.{Reg}
 use Rattle.ir_tree.specs.declared.operand.Reg.TheVariants.{Int, Ptr}
 use Rattle.ir_meaning.specs.Execute.{reg_eq}
-use Rattle.slot_promote.specs.Uses.{uses}
-use Rattle.slot_promote.specs.declared.slots.Slot.{Slot}
-use Rattle.slot_promote.specs.declared.uses.Use.{Use}
+use Rattle.promotable_slots.specs.Uses.{uses}
+use Rattle.promotable_slots.specs.declared.slots.Slot.{Slot}
+use Rattle.promotable_slots.specs.declared.uses.Use.{Use}
 
 -- ---- slots of scalars
 

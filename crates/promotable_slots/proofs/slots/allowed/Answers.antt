@@ -1,9 +1,9 @@
 use Rattle.std.proofs.Common.{◌+◌, ◌++◌, drop, Vec, Global, sym, ◌∙◌, ap}
-use Rattle.slot_promote.specs.Slots.{promotable}
-use Rattle.slot_promote.specs.declared.slots.Slot.{Slot}
-use Rattle.slot_promote.proofs.Loops.{slot_kept, slot_left}
-use Rattle.slot_promote.proofs.slots.allowed.Goals.{then-allows+in_ok-push, else-allows}
-use Rattle.slot_promote.proofs.slots.allowed.Goals as goal
+use Rattle.promotable_slots.specs.Slots.{promotable}
+use Rattle.promotable_slots.specs.declared.slots.Slot.{Slot}
+use Rattle.promotable_slots.proofs.Kept.{slot_kept, slot_left}
+use Rattle.promotable_slots.proofs.slots.allowed.Goals.{then-allows+in_ok-push, else-allows}
+use Rattle.promotable_slots.proofs.slots.allowed.Goals as goal
 
 pub loop-slot-preserved : goal.loop-slot-preserved
 loop-slot-preserved c = λ us h.

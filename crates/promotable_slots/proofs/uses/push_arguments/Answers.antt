@@ -1,8 +1,8 @@
 use Rattle.std.proofs.Common.{None, ◌∙◌, refl}
 use Rattle.ir_tree.specs.declared.operand.Argument.{Argument}
-use Rattle.slot_promote.specs.Uses.{argument_uses, operand_uses}
+use Rattle.promotable_slots.specs.Uses.{argument_uses, operand_uses}
 use Rattle.ir_edit.proofs.Stepping.{given_more}
-use Rattle.slot_promote.proofs.uses.push_arguments.Goals as goal
+use Rattle.promotable_slots.proofs.uses.push_arguments.Goals as goal
 
 pub loop-argument-preserved : goal.loop-argument-preserved
 loop-argument-preserved c =

@@ -1,8 +1,8 @@
 use Rattle.std.proofs.Common.{None, ◌∙◌, refl}
 use Rattle.ir_tree.specs.declared.instr.Incoming.{Incoming}
-use Rattle.slot_promote.specs.Uses.{entry_uses, operand_uses}
+use Rattle.promotable_slots.specs.Uses.{entry_uses, operand_uses}
 use Rattle.ir_edit.proofs.Stepping.{given_more}
-use Rattle.slot_promote.proofs.uses.push_entries.Goals as goal
+use Rattle.promotable_slots.proofs.uses.push_entries.Goals as goal
 
 pub loop-entry-preserved : goal.loop-entry-preserved
 loop-entry-preserved c =

@@ -1,8 +1,8 @@
 use Rattle.std.proofs.Common.{◌∙◌, refl}
 use Rattle.ir_tree.specs.declared.instr.Line.{Line}
-use Rattle.slot_promote.specs.Slots.{line_slots, slot_made}
+use Rattle.promotable_slots.specs.Slots.{line_slots, slot_made}
 use Rattle.ir_edit.proofs.Stepping.{given_more}
-use Rattle.slot_promote.proofs.slots.push_slots.Goals as goal
+use Rattle.promotable_slots.proofs.slots.push_slots.Goals as goal
 
 pub loop-line-preserved : goal.loop-line-preserved
 loop-line-preserved c =

@@ -1,9 +1,9 @@
 use Rattle.std.proofs.Common.{◌++◌, List, ◌∙◌, refl, ap}
 use Rattle.ir_tree.specs.declared.block.Block.{Block}
 use Rattle.ir_tree.specs.declared.instr.Line.{Line}
-use Rattle.slot_promote.specs.Slots.{line_slots, slots}
+use Rattle.promotable_slots.specs.Slots.{line_slots, slots}
 use Rattle.ir_edit.proofs.Stepping.{given_more}
-use Rattle.slot_promote.proofs.slots.slots_in.Goals as goal
+use Rattle.promotable_slots.proofs.slots.slots_in.Goals as goal
 
 pub loop-block-preserved : goal.loop-block-preserved
 loop-block-preserved c =
