@@ -1,5 +1,5 @@
 -- A batch of links.
-use Rattle.std.proofs.Common.{◌≡◌, ◌<◌, ◌∙◌, ℕ, zero, suc, ◌+◌, List, [], ◌∷◌, ◌++◌, length, take, get_or, map, OnOk, Option, Some, Result, Ok, Err, ap, inl, inr, refl, sym, subst, arith}
+use Rattle.std.proofs.Common.{◌≡◌, ◌<◌, ◌∙◌, ℕ, zero, suc, ◌+◌, List, [], ◌∷◌, ◌++◌, length, take, get_or, OnOk, Option, Some, Result, Ok, Err, ap, inl, inr, refl, sym, subst, arith}
 use Rattle.std.specs.List.{AllZip}
 use Rattle.std.specs.Prelude.{IfErr, slice_get}
 use Rattle.std.proofs.lemmas.Grind.{take_at_read}

@@ -1,6 +1,6 @@
 -- What a cache leaves of its disk.
 use mathlib.Core.Logic.{∥∥₁_map}
-use Rattle.std.proofs.Common.{◌≡◌, ◌≢◌, ℕ, List, Option, Some, None, refl}
+use Rattle.std.proofs.Common.{◌≢◌, ℕ, List, Option, Some, None, refl}
 use Rattle.cache_slot.specs.Files.{file_of}
 use Rattle.cache_slot.specs.Records.{NoEntryOf}
 use Rattle.cache_slot.specs.Shelved.{DiskTold, IsShelved}

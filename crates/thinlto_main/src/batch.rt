@@ -16,8 +16,8 @@ ghost use Rattle.lto_outside.specs.Seen.{files_seen};
 ghost use Rattle.run_program.specs.Causes.{Because, Comes, never};
 ghost use Rattle.thinlto_main.specs.Batching.{AreGiven, AreLinkable, FirstLink, HasListed, batching, fetching, listing};
 ghost use Rattle.thinlto_main.specs.Honest.{HonestEntry, IsTrustedBy};
-ghost use Rattle.thinlto_main.specs.Keys.{DiskKept, IsKeyAmong, IsKeyOfList};
-ghost use Rattle.thinlto_main.specs.Linking.{IsMadeIf, IsUnlinkable};
+ghost use Rattle.thinlto_main.specs.Keys.{DiskKept, IsKeyAmong, IsKeyOf, IsKeyOfList};
+ghost use Rattle.thinlto_main.specs.Linking.{IsLinkable, IsMadeIf, IsUnlinkable};
 ghost use Rattle.thinlto_main.specs.Modules.{FirstBad};
 
 use crate::cache::{Cached, directory};
@@ -65,6 +65,39 @@ fn links_of<F: Files>(
     }
 }
 
+/// The text of a link, whose files gave this, made over this cache.
+fn made_of<R: Threads + Wait + Sync, D: CacheDisk + Send, S: Setting + Send + Sync, G: Gate + Sync>(
+    rt: &R,
+    alloc: Global,
+    options: &LinkOptions,
+    link: &ListedLink,
+    given: &Rows<Option<Text>>,
+    cache: &SharedCache<D, S>,
+    pass: &mut CachePass<D, S>,
+    gate: &G,
+) -> Result<Text, Refusal>
+    requires given { GivenFor link.now given.now }
+    requires pass { IsAt cache.now.lock.table.shared.table_id pass.old.place.seat }
+    requires meaning { (key text : List ℕ) → D.fits key text ↔ HonestEntry key text }
+    requires keys { (key : List ℕ) → IsKeyOf options.now given.now key → S.keys key }
+    ensures pass { IsAt cache.now.lock.table.shared.table_id pass.new.place.seat }
+    ensures linkable { IfOk result (λ _. IsLinkable options.now link.now.files given.now) }
+    ensures made { IfOk result (IsMadeIf (IsTrusted S.dir D.fits S.files) options.now given.now) }
+    ensures because { IfErr result (Because (record never { refused = FirstBad link.now.files given.now; unlinked = IsUnlinkable options.now link.now.files given.now; memory = Unit {0} })) }
+{
+    let names = link.files.as_slice();
+    made(
+        rt,
+        alloc,
+        options,
+        names,
+        given.as_slice(),
+        cache,
+        pass,
+        gate,
+    )
+}
+
 /// The text of each link, up to the first that isn't made, each made over this cache.
 fn all_made<
     R: Threads + Wait + Sync,
@@ -92,9 +125,7 @@ fn all_made<
 {
     let mut texts = Rows::new(alloc);
     for (at, link) in links.iter().enumerate() {
-        let bytes = given[at].as_slice();
-        let names = link.files.as_slice();
-        let text = match made(rt, alloc, options, names, bytes, cache, pass, gate) {
+        let text = match made_of(rt, alloc, options, link, &given[at], cache, pass, gate) {
             Ok(text) => text,
             Err(why) => return Err(why),
         };

@@ -6,8 +6,9 @@ ghost use Rattle.lto_outside.specs.Seen.{files_seen};
 ghost use Rattle.thinlto_main.specs.Answers.{Says, causes_of, obeyed, reporting};
 ghost use Rattle.thinlto_main.specs.Asking.{Asked};
 ghost use Rattle.run_program.specs.Causes.{Comes};
-ghost use Rattle.thinlto_main.specs.Honest.{HonestEntry};
-ghost use Rattle.thinlto_main.specs.Keys.{LeavesDisk};
+ghost use Rattle.thinlto_main.specs.Honest.{HonestEntry, IsTrustedBy};
+ghost use Rattle.thinlto_main.specs.Keys.{DiskKept, IsKeyOfFiles, LeavesDisk};
+ghost use Rattle.thinlto_main.specs.Linking.{linking};
 ghost use Rattle.thinlto_main.specs.Modules.{AreRead};
 ghost use Rattle.thinlto_main.specs.Running.{SaysReturned, running};
 ghost use Rattle.thinlto_main.specs.Seen.{rest_seen, seen};
@@ -22,11 +23,39 @@ use crate::status::Status;
 use ir_tree::{Rows, Text};
 use lto_fault::Refusal;
 use lto_outside::{ByteIn, ByteOut, CacheDisk, Files, Gate};
-use lto_words::{Command, FileName, WordsError, command, one_command};
+use lto_words::{Command, FileName, LinkOptions, WordsError, command, one_command};
 use run_program::RunOptions;
 use std::alloc::Global;
 use std::sync::Wait;
 use std::thread::Threads;
+
+/// Does the link that a command asks for, over the cache that its options ask for on this disk.
+fn obey_link<R: Threads + Wait + Sync, F: Files, D: CacheDisk + Send, G: Gate + Sync>(
+    rt: &R,
+    alloc: Global,
+    files: &mut F,
+    disk: D,
+    gate: &G,
+    options: LinkOptions,
+    out: FileName,
+    names: Rows<FileName>,
+) -> Ended<D>
+    requires meaning { (key text : List ℕ) → D.fits key text ↔ HonestEntry key text }
+    ensures answer { Comes (linking options out names (IsTrustedBy options (IsHonest decoded D.fits (D.held disk))) (files_seen F.did F.held F.faults files.old files.new)) result.status }
+    ensures disk { ∥ DiskKept D.fits (IsKeyOfFiles options names (λ calls. F.did files.old calls files.new)) options.cache (D.held disk) (D.held result.disk) ∥₁ }
+    ensures later { F.faults files.old ≤ F.faults files.new }
+{
+    link(
+        rt,
+        alloc,
+        files,
+        disk,
+        gate,
+        &options,
+        out,
+        names.as_slice(),
+    )
+}
 
 /// Does the index that a command asks for.
 fn obey_index<F: Files, O: ByteOut>(
@@ -100,16 +129,7 @@ fn obey<
             options,
             out: name,
             files: names,
-        } => link(
-            rt,
-            alloc,
-            files,
-            disk,
-            gate,
-            &options,
-            name,
-            names.as_slice(),
-        ),
+        } => obey_link(rt, alloc, files, disk, gate, options, name, names),
         Command::Index {
             exports,
             import_limit,

@@ -1,62 +1,43 @@
 use Rattle.std.proofs.Common.{◌≡◌, ◌<◌, ℕ, List, Option, arith, length, subst, sym, take, take_all}
-use Rattle.std.specs.Prelude.{All}
 use Rattle.std.specs.List.{AllZip}
 use Rattle.link_one.proofs.Zipping.{zip_next}
-use Rattle.lto_words.specs.Fetching.{IsShort}
 use Rattle.lto_words.specs.Links.{GivenFor}
-use Rattle.run_program.specs.Causes.{Because, never}
 use Rattle.run_program.proofs.Causes.{because_map}
 use Rattle.lto_words.specs.declared.listing.ListedLink.{ListedLink}
 use Rattle.back_pool.specs.Making.{IsTrusted}
 use Rattle.thinlto_main.specs.Batching.{AreLinkable}
-use Rattle.thinlto_main.specs.Keys.{IsKeyOf}
-use Rattle.thinlto_main.specs.Linking.{IsLinkable, IsMadeIf, IsUnlinkable}
-use Rattle.thinlto_main.specs.Modules.{FirstBad}
+use Rattle.thinlto_main.specs.Linking.{IsLinkable, IsMadeIf}
 use Rattle.thinlto_main.proofs.Batching.{link_because, zip_at, zip_both, zip_length, zip_within}
 use Rattle.thinlto_main.proofs.batch.all_made.Goals as goal
 
 pub bounds-given-at : goal.bounds-given-at
 bounds-given-at g c = zip_within GivenFor c.args.links.now c.args.given.now c.loop-at.at c.requires.each c.loop-at-test.true
 
-pub made-requires-clause-each : goal.made-requires-clause-each
-made-requires-clause-each g c κs within =
-    subst (λ (b : List (Option (List ℕ))). length b ≡ length c.as_slice-names.result.now) (sym c.as_slice-bytes.ensures)
-    (subst (λ (n : List (List ℕ)). length c.index-given-at.result ≡ length n) (sym c.as_slice-names.ensures)
-    (zip_at GivenFor c.args.links.now c.args.given.now c.loop-at.at c.index-links-at.result c.index-given-at.result c.requires.each c.loop-at-test.true c.index-links-at.is c.index-given-at.is).each)
-
-pub made-requires-clause-short : goal.made-requires-clause-short
-made-requires-clause-short g c κs within =
-    subst (All IsShort) (sym c.as_slice-bytes.ensures)
-    (zip_at GivenFor c.args.links.now c.args.given.now c.loop-at.at c.index-links-at.result c.index-given-at.result c.requires.each c.loop-at-test.true c.index-links-at.is c.index-given-at.is).short
+pub made_of-requires-clause-given : goal.made_of-requires-clause-given
+made_of-requires-clause-given g c κs within =
+    zip_at GivenFor c.args.links.now c.args.given.now c.loop-at.at c.index-links-at.result c.index-given-at.result c.requires.each c.loop-at-test.true c.index-links-at.is c.index-given-at.is
 
 pub returns-in-Err-clause-because : goal.returns-in-Err-clause-because
 returns-in-Err-clause-because g c =
     because_map
     (link_because c.args.options.now c.args.links.now c.args.given.now c.loop-at.at c.index-links-at.result c.index-given-at.result c.requires.each c.loop-at.invariant.linkable c.loop-at-test.true c.index-links-at.is c.index-given-at.is)
-    c.in-Err.why
-    (subst (λ (n : List (List ℕ)). Because (record never { refused = FirstBad n c.index-given-at.result; unlinked = IsUnlinkable c.args.options.now n c.index-given-at.result; memory = Unit {0} }) c.in-Err.why) c.as_slice-names.ensures
-    (subst (λ (b : List (Option (List ℕ))). Because (record never { refused = FirstBad c.as_slice-names.result.now b; unlinked = IsUnlinkable c.args.options.now c.as_slice-names.result.now b; memory = Unit {0} }) c.in-Err.why) c.as_slice-bytes.ensures c.in-Err.ensures.because))
+    c.in-Err.why c.in-Err.ensures.because
 
-pub made-requires-clause-keys : goal.made-requires-clause-keys
-made-requires-clause-keys g c κs within = λ key is.
+pub made_of-requires-clause-keys : goal.made_of-requires-clause-keys
+made_of-requires-clause-keys g c κs within = λ key is.
     let lt : c.loop-at.at < length c.args.given.now = zip_within GivenFor c.args.links.now c.args.given.now c.loop-at.at c.requires.each c.loop-at-test.true in
-    let of_given : IsKeyOf c.args.options.now c.index-given-at.result key = subst (λ (b : List (Option (List ℕ))). IsKeyOf c.args.options.now b key) c.as_slice-bytes.ensures is in
-    c.requires.keys key (record { given = c.index-given-at.result; one = (c.loop-at.at, lt, sym c.index-given-at.is); is = of_given })
+    c.requires.keys key (record { given = c.index-given-at.result; one = (c.loop-at.at, lt, sym c.index-given-at.is); is = is })
 
 pub loop-at-preserved : goal.loop-at-preserved
 loop-at-preserved g c =
     let trusted = IsTrusted g.S.Setting.dir g.D.CacheDisk.fits g.S.Setting.files in
     let within : c.loop-at.at < length c.args.given.now = zip_within GivenFor c.args.links.now c.args.given.now c.loop-at.at c.requires.each c.loop-at-test.true in
-    let is_made : IsMadeIf trusted c.args.options.now c.index-given-at.result c.in-Ok.text = subst (λ (b : List (Option (List ℕ))). IsMadeIf trusted c.args.options.now b c.in-Ok.text) c.as_slice-bytes.ensures c.in-Ok.ensures.made in
-    let is_linkable : IsLinkable c.args.options.now c.index-links-at.result.files c.index-given-at.result =
-    subst (λ (n : List (List ℕ)). IsLinkable c.args.options.now n c.index-given-at.result) c.as_slice-names.ensures
-    (subst (λ (b : List (Option (List ℕ))). IsLinkable c.args.options.now c.as_slice-names.result.now b) c.as_slice-bytes.ensures c.in-Ok.ensures.linkable) in
     record {
-      pass = c.made.ensures.pass;
-      made = zip_next (IsMadeIf trusted c.args.options.now) c.args.given.now c.loop-at.at c.index-given-at.result within c.index-given-at.is c.loop-at.texts c.push.new.self c.in-Ok.text c.loop-at.invariant.made is_made c.in-Ok-push.ensures.ok;
+      pass = c.made_of.ensures.pass;
+      made = zip_next (IsMadeIf trusted c.args.options.now) c.args.given.now c.loop-at.at c.index-given-at.result within c.index-given-at.is c.loop-at.texts c.push.new.self c.in-Ok.text c.loop-at.invariant.made c.in-Ok.ensures.made c.in-Ok-push.ensures.ok;
       linkable =
           zip_both (λ link bytes. IsLinkable c.args.options.now link.files bytes) c.args.links.now c.args.given.now c.loop-at.at c.index-links-at.result c.index-given-at.result c.loop-at.invariant.linkable c.loop-at-test.true within c.index-links-at.is c.index-given-at.is
-          is_linkable;
+          c.in-Ok.ensures.linkable;
     }
 
 pub returns-clause-made : goal.returns-clause-made
@@ -71,17 +52,17 @@ returns-clause-linkable g c =
     subst (λ (links : List ListedLink). AreLinkable c.args.options.now links c.args.given.now) (take_all c.loop-at.at c.args.links.now (omega (arith, c.loop-at-test.false)))
     (subst (λ (given : List (List (Option (List ℕ)))). AreLinkable c.args.options.now (take c.loop-at.at c.args.links.now) given) (take_all c.loop-at.at c.args.given.now (omega (arith, same, c.loop-at-test.false))) c.loop-at.invariant.linkable)
 
-pub made-requires-clause-pass : goal.made-requires-clause-pass
-made-requires-clause-pass g c κs within = c.loop-at.invariant.pass
+pub made_of-requires-clause-pass : goal.made_of-requires-clause-pass
+made_of-requires-clause-pass g c κs within = c.loop-at.invariant.pass
 
-pub made-requires-clause-meaning : goal.made-requires-clause-meaning
-made-requires-clause-meaning g c κs within = c.requires.meaning
+pub made_of-requires-clause-meaning : goal.made_of-requires-clause-meaning
+made_of-requires-clause-meaning g c κs within = c.requires.meaning
 
 pub returns-in_default-clause-pass : goal.returns-in_default-clause-pass
-returns-in_default-clause-pass g c = c.made.ensures.pass
+returns-in_default-clause-pass g c = c.made_of.ensures.pass
 
 pub returns-in-Err-clause-pass : goal.returns-in-Err-clause-pass
-returns-in-Err-clause-pass g c = c.made.ensures.pass
+returns-in-Err-clause-pass g c = c.made_of.ensures.pass
 
 pub returns-clause-pass : goal.returns-clause-pass
 returns-clause-pass g c = c.loop-at.invariant.pass

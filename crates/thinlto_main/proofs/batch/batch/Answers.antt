@@ -1,4 +1,4 @@
-use Rattle.std.proofs.Common.{◌≡◌, ◌∙◌, ℕ, List, [], Option, Result, ap, arith, length, subst, sym}
+use Rattle.std.proofs.Common.{◌∙◌, ℕ, List, [], Option, Result, ap, arith, length, subst, sym}
 use Rattle.std.specs.List.{AllZip}
 use Rattle.std.specs.Prelude.{IfErr, IfOk}
 use Rattle.std.proofs.lemmas.Slice.Zip.{AllZip-long}

@@ -1,4 +1,4 @@
-use Rattle.std.proofs.Common.{ℕ, List, Option, arith, subst, sym}
+use Rattle.std.proofs.Common.{List, arith, subst, sym}
 use Rattle.lto_fault.specs.declared.refusal.Refusal.{Refusal}
 use Rattle.lto_outside.specs.Calls.{Call}
 use Rattle.lto_outside.specs.Cause.{Rose}

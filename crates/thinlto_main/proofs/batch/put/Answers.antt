@@ -1,4 +1,4 @@
-use Rattle.std.proofs.Common.{◌≡◌, ◌∙◌, ℕ, List, Option, ap, subst, sym}
+use Rattle.std.proofs.Common.{◌≡◌, ◌∙◌, ℕ, List, ap, subst, sym}
 use Rattle.std.specs.Prelude.{slice_index_or}
 use Rattle.lto_words.specs.Links.{PutFailed}
 use Rattle.lto_words.specs.declared.listing.ListedLink.{ListedLink}

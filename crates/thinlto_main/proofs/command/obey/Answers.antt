@@ -1,15 +1,12 @@
-use Rattle.std.proofs.Common.{◌≡◌, ℕ, List, OnOk, refl, ap, subst, sym}
+use Rattle.std.proofs.Common.{◌≡◌, List, OnOk, refl, ap, subst, sym}
 use Rattle.lto_outside.specs.Calls.{Call}
-use Rattle.lto_outside.specs.Seen.{files_seen}
 use Rattle.lto_words.specs.declared.request.Command.{Command}
 use Rattle.thinlto_main.specs.Answers.{Says, obeyed}
 use Rattle.thinlto_main.specs.Asking.{is_offered}
 use Rattle.cache_slot.specs.Decoded.{decoded}
 use Rattle.lto_outside.specs.Honest.{IsHonest}
-use Rattle.thinlto_main.specs.Honest.{IsTrustedBy}
-use Rattle.thinlto_main.specs.Keys.{DiskKept, IsKeyOfFiles, LeavesDisk}
+use Rattle.thinlto_main.specs.Keys.{LeavesDisk}
 use Rattle.run_program.specs.Causes.{Comes}
-use Rattle.thinlto_main.specs.Linking.{linking}
 use Rattle.thinlto_main.specs.Seen.{rest_seen, seen}
 use Rattle.run_program.specs.Streams.{notes_seen}
 use Rattle.thinlto_main.proofs.Asking.{batch_obeyed, index_obeyed, link_obeyed, on_each, run_obeyed}
@@ -25,16 +22,15 @@ returns-in-Gen-clause-disk g c =
 
 pub returns-in-Link-clause-answer : goal.returns-in-Link-clause-answer
 returns-in-Link-clause-answer g c =
-    subst (λ (k : Command). Comes (obeyed k (seen g.F.Files.did g.F.Files.held g.F.Files.faults g.O.ByteOut.sent g.O.ByteOut.faults c.args.files.now c.link.new.files c.args.out.now c.args.out.now) (rest_seen g.I.ByteIn.left g.I.ByteIn.faults (IsHonest decoded g.D.CacheDisk.fits (g.D.CacheDisk.held c.args.disk)) c.args.input.now c.args.input.now)) c.link.result.status) (sym c.in-Link.is)
-    (comes_map (link_obeyed c.in-Link.options c.in-Link.name c.in-Link.names (seen g.F.Files.did g.F.Files.held g.F.Files.faults g.O.ByteOut.sent g.O.ByteOut.faults c.args.files.now c.link.new.files c.args.out.now c.args.out.now) (rest_seen g.I.ByteIn.left g.I.ByteIn.faults (IsHonest decoded g.D.CacheDisk.fits (g.D.CacheDisk.held c.args.disk)) c.args.input.now c.args.input.now) refl refl) c.link.result.status
-    (subst (λ (ns : List (List ℕ)). Comes (linking c.in-Link.options c.in-Link.name ns (IsTrustedBy c.in-Link.options (IsHonest decoded g.D.CacheDisk.fits (g.D.CacheDisk.held c.args.disk))) (files_seen g.F.Files.did g.F.Files.held g.F.Files.faults c.args.files.now c.link.new.files)) c.link.result.status) c.as_slice.ensures c.link.ensures.answer))
+    subst (λ (k : Command). Comes (obeyed k (seen g.F.Files.did g.F.Files.held g.F.Files.faults g.O.ByteOut.sent g.O.ByteOut.faults c.args.files.now c.obey_link.new.files c.args.out.now c.args.out.now) (rest_seen g.I.ByteIn.left g.I.ByteIn.faults (IsHonest decoded g.D.CacheDisk.fits (g.D.CacheDisk.held c.args.disk)) c.args.input.now c.args.input.now)) c.obey_link.result.status) (sym c.in-Link.is)
+    (comes_map (link_obeyed c.in-Link.options c.in-Link.name c.in-Link.names (seen g.F.Files.did g.F.Files.held g.F.Files.faults g.O.ByteOut.sent g.O.ByteOut.faults c.args.files.now c.obey_link.new.files c.args.out.now c.args.out.now) (rest_seen g.I.ByteIn.left g.I.ByteIn.faults (IsHonest decoded g.D.CacheDisk.fits (g.D.CacheDisk.held c.args.disk)) c.args.input.now c.args.input.now) refl refl) c.obey_link.result.status c.obey_link.ensures.answer)
 
 pub returns-in-Link-clause-says : goal.returns-in-Link-clause-says
 returns-in-Link-clause-says g c =
-    subst (λ (k : Command). OnOk c.link.result.status (Says k (seen g.F.Files.did g.F.Files.held g.F.Files.faults g.O.ByteOut.sent g.O.ByteOut.faults c.args.files.now c.link.new.files c.args.out.now c.args.out.now) (rest_seen g.I.ByteIn.left g.I.ByteIn.faults (IsHonest decoded g.D.CacheDisk.fits (g.D.CacheDisk.held c.args.disk)) c.args.input.now c.args.input.now) (notes_seen g.N.ByteOut.sent g.N.ByteOut.faults c.args.notes.now c.args.notes.now))) (sym c.in-Link.is) (on_each c.link.result.status (c.args.notes.now ≡ c.args.notes.now) refl).0
+    subst (λ (k : Command). OnOk c.obey_link.result.status (Says k (seen g.F.Files.did g.F.Files.held g.F.Files.faults g.O.ByteOut.sent g.O.ByteOut.faults c.args.files.now c.obey_link.new.files c.args.out.now c.args.out.now) (rest_seen g.I.ByteIn.left g.I.ByteIn.faults (IsHonest decoded g.D.CacheDisk.fits (g.D.CacheDisk.held c.args.disk)) c.args.input.now c.args.input.now) (notes_seen g.N.ByteOut.sent g.N.ByteOut.faults c.args.notes.now c.args.notes.now))) (sym c.in-Link.is) (on_each c.obey_link.result.status (c.args.notes.now ≡ c.args.notes.now) refl).0
 
 pub returns-in-Link-clause-silent : goal.returns-in-Link-clause-silent
-returns-in-Link-clause-silent g c = (on_each c.link.result.status (c.args.notes.now ≡ c.args.notes.now) refl).1
+returns-in-Link-clause-silent g c = (on_each c.obey_link.result.status (c.args.notes.now ≡ c.args.notes.now) refl).1
 
 pub returns-in-Index-clause-answer : goal.returns-in-Index-clause-answer
 returns-in-Index-clause-answer g c =
@@ -74,8 +70,8 @@ returns-in-Run-clause-silent g c = c.obey_run-status.ensures.silent
 
 pub returns-in-Link-clause-disk : goal.returns-in-Link-clause-disk
 returns-in-Link-clause-disk g c =
-    subst (λ (k : Command). LeavesDisk k (λ (calls : List Call). g.F.Files.did c.args.files.now calls c.link.new.files) g.D.CacheDisk.fits (g.D.CacheDisk.held c.args.disk) (g.D.CacheDisk.held c.link.result.disk)) (sym c.in-Link.is)
-    (subst (λ (ns : List (List ℕ)). ∥ DiskKept g.D.CacheDisk.fits (IsKeyOfFiles c.in-Link.options ns (λ (calls : List Call). g.F.Files.did c.args.files.now calls c.link.new.files)) c.in-Link.options.cache (g.D.CacheDisk.held c.args.disk) (g.D.CacheDisk.held c.link.result.disk) ∥₁) c.as_slice.ensures c.link.ensures.disk)
+    subst (λ (k : Command). LeavesDisk k (λ (calls : List Call). g.F.Files.did c.args.files.now calls c.obey_link.new.files) g.D.CacheDisk.fits (g.D.CacheDisk.held c.args.disk) (g.D.CacheDisk.held c.obey_link.result.disk)) (sym c.in-Link.is)
+    c.obey_link.ensures.disk
 
 pub returns-in-Batch-clause-disk : goal.returns-in-Batch-clause-disk
 returns-in-Batch-clause-disk g c =
@@ -91,7 +87,7 @@ returns-in-Run-clause-disk g c =
     subst (λ (k : Command). LeavesDisk k (λ (calls : List Call). g.F.Files.did c.args.files.now calls c.obey_run-status.new.files) g.D.CacheDisk.fits (g.D.CacheDisk.held c.args.disk) (g.D.CacheDisk.held c.args.disk)) (sym c.in-Run.is) refl
 
 pub returns-in-Link-clause-later : goal.returns-in-Link-clause-later
-returns-in-Link-clause-later g c = c.link.ensures.later
+returns-in-Link-clause-later g c = c.obey_link.ensures.later
 
 pub returns-in-Index-clause-later : goal.returns-in-Index-clause-later
 returns-in-Index-clause-later g c = c.obey_index-status.ensures.later
