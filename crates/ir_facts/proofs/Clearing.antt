@@ -1,5 +1,5 @@
 -- Blocks and lines that are clear, as code asks.
-use Rattle.std.proofs.Common.{◌≡◌, ℕ, suc, Bool, false, ◌||◌, List, ◌∷◌, ◌++◌, append_assoc, Option, sym, ◌∙◌, ap}
+use Rattle.std.proofs.Common.{◌≡◌, ℕ, suc, Bool, true, false, ◌||◌, List, ◌∷◌, ◌++◌, append_assoc, Option, sym, ◌∙◌, ap}
 use Rattle.std.specs.Prelude.{◌&&◌, not}
 use Rattle.ir_tree.specs.declared.block.Block.{Block}
 use Rattle.ir_tree.specs.declared.instr.Line.{Line}
@@ -17,6 +17,11 @@ line_clear bar own front new l rest more cut a b is =
     (λ i. lines_clear bar own (λ x. is x i) rest)
     ∙ sym (λ i. not (a i || b i) && lines_clear bar own (with_given front l.local) rest)
     ∙ ap (lines_clear bar own front) (sym cut)
+
+-- a line that reads what it isn't to read decides
+pub line_unclear : (bar own front : ℕ → Bool) (l : Line) (rest more : List Line) → more ≡ l ∷ rest → (instr_names bar l.instr || instr_names (beside own front) l.instr) ≡ true → false ≡ lines_clear bar own front more
+line_unclear bar own front l rest more cut reads =
+    sym (ap (lines_clear bar own front) cut ∙ ap (λ (t : Bool). not t && lines_clear bar own (with_given front l.local) rest) reads)
 
 pub block_is : (bars : ℕ → ℕ → Bool) (place : ℕ → Option ℕ) (p : ℕ) (own : ℕ → Bool) (b : Block) → ((x : ℕ) → own x ≡ defined b x) → (sourced taken read clear free : Bool)
     → free ≡ (not sourced && (not (taken || read) && clear)) → sourced ≡ any_among own (phi_candidates b.phis b.phis) → taken ≡ phis_barred bars place b.phis → read ≡ end_names (bars p) b.end

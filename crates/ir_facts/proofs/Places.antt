@@ -2,7 +2,7 @@
 use Rattle.std.proofs.Common.{◌≡◌, ℕ, zero, suc, ◌+◌, ◌≤◌, ◌<◌, ◌==◌, Bool, false, List, [], ◌∷◌, ◌++◌, Option, Some, None, length, map, take, refl, ◌∙◌, ap, arith, if◌then◌else◌}
 use Rattle.std.specs.Prelude.{slice_get}
 use Rattle.std.proofs.lemmas.Bool.{eq-eqb, ne_eqb}
-use Rattle.std.proofs.lemmas.List.{get_or_append_left, get_or-append-add, get_or_past, length-map}
+use Rattle.std.proofs.lemmas.List.{get_or_append_left, get_or-append-add, length-map}
 use Rattle.lto_sets.specs.Sets.{contains}
 use Rattle.ir_tree.specs.declared.block.Block.{Block}
 use Rattle.ir_tree.specs.declared.instr.Line.{Line}
@@ -71,9 +71,6 @@ module _ (x : ℕ) (v : Operand) where
       ∙ ap (λ (q : ℕ). held_along x v (take i b.lines) (starts q)) here
 
 -- no mark stands past the points
-pub past_contains : (s : List Bool) (k : ℕ) → length s ≤ k → contains s k ≡ false
-past_contains s k past = get_or_past s k false past
-
 -- ---- last points
 
 no_point : (n k : ℕ) (bs : List Block) → ((i : ℕ) (b : Block) → slice_get bs i ≡ Some b → b.number ≡ n → ⊥) → last_point k bs n ≡ None

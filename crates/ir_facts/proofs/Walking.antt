@@ -1,20 +1,24 @@
 -- Walks over lists: what is left in front of an item, and what is pushed for it.
-use Rattle.std.proofs.Common.{◌≡◌, ℕ, suc, ◌+◌, ◌<◌, ◌≤◌, Bool, true, false, List, [], ◌∷◌, ◌++◌, length, get_or, drop, append_assoc, append-nil, add-one, Option, None, sym, ◌∙◌, ap, if◌then◌else◌}
+use Rattle.std.proofs.Common.{◌≡◌, ℕ, suc, ◌+◌, ◌<◌, Bool, true, false, List, [], ◌∷◌, ◌++◌, length, get_or, drop, append_assoc, Option, Some, None, sym, ◌∙◌, ap, if◌then◌else◌}
 use Rattle.std.specs.Prelude.{◌&&◌}
-use Rattle.std.proofs.Math.Seq.{drop-cons}
-use Rattle.std.proofs.lemmas.List.{drop_all}
 use Rattle.ir_tree.specs.declared.block.Block.{Block}
 use Rattle.ir_tree.specs.declared.instr.Line.{Line}
 use Rattle.ir_tree.specs.declared.instr.Phi.{Phi}
 use Rattle.ir_tree.specs.declared.operand.Operand.{Operand}
 use Rattle.ir_meaning.specs.Facts.{Facts}
 use Rattle.fact_sources.specs.Membership.{is_member}
+use Rattle.fact_sources.proofs.Stepping.{cut_at}
 use Rattle.ir_facts.specs.Clear.{all_inner, block_clear, blocks_clear, inner_keys, keys_among}
 use Rattle.ir_facts.specs.FactFlow.{earlier, flow_points, opened, phi_in, phi_of}
 use Rattle.ir_facts.specs.Points.{held_behind, line_points}
 
-pub cut_at : {X : Type 0} (xs : List X) (i : ℕ) (x : X) → i < length xs → x ≡ get_or xs i x → drop i xs ≡ x ∷ drop (i + 1) xs
-cut_at {X} xs i x lt is = drop-cons xs i x lt ∙ ap (λ (y : X). y ∷ drop (suc i) xs) (sym is) ∙ ap (λ (j : ℕ). x ∷ drop j xs) (sym (add-one i))
+-- the first that is met is what is found, and those in front of it are passed over
+pub found_at : {X Y : Type 0} (find : List X → Y) (xs : List X) (i : ℕ) (x : X) (y : Y) → i < length xs → x ≡ get_or xs i x → find (x ∷ drop (i + 1) xs) ≡ y → y ≡ find (drop i xs)
+found_at find xs i x y lt is gives = sym (ap find (cut_at xs i x lt is) ∙ gives)
+
+pub looked_past : {X Y : Type 0} (find : List X → Y) (xs : List X) (i : ℕ) (x : X) → i < length xs → x ≡ get_or xs i x → find (x ∷ drop (i + 1) xs) ≡ find (drop (i + 1) xs)
+    → find (drop (i + 1) xs) ≡ find (drop i xs)
+looked_past find xs i x lt is passes = sym (ap find (cut_at xs i x lt is) ∙ passes)
 
 -- ---- locals of facts
 
@@ -49,8 +53,16 @@ block_passed bars place p next b rest more cut step is =
     ∙ ap (λ (t : Bool). t && blocks_clear bars place (suc p) rest) (sym is)
     ∙ ap (blocks_clear bars place p) (sym cut)
 
+-- the first that isn't clear decides
+pub block_stops : (bars : ℕ → ℕ → Bool) (place : ℕ → Option ℕ) (p : ℕ) (b : Block) (rest more : List Block) → more ≡ b ∷ rest → block_clear bars place p b ≡ false
+    → false ≡ blocks_clear bars place p more
+block_stops bars place p b rest more cut is = sym (ap (blocks_clear bars place p) cut ∙ ap (λ (t : Bool). t && blocks_clear bars place (suc p) rest) is)
+
 pub phi_passed : (x : ℕ) (b : Block) (rest more : List Block) → more ≡ b ∷ rest → phi_in x b.phis ≡ None → phi_of x rest ≡ phi_of x more
 phi_passed x b rest more cut none = ap (λ (o : Option Phi). earlier o (phi_of x rest)) (sym none) ∙ ap (phi_of x) (sym cut)
+
+pub phi_met : (x : ℕ) (b : Block) (p : Phi) (rest more : List Block) → more ≡ b ∷ rest → phi_in x b.phis ≡ Some p → Some p ≡ phi_of x more
+phi_met x b p rest more cut is = sym (ap (phi_of x) cut ∙ ap (λ (o : Option Phi). earlier o (phi_of x rest)) is)
 
 -- ---- points
 
@@ -69,8 +81,3 @@ points_pushed x v rows p next b rest more start old new cut step is e =
     ∙ append_assoc old (line_points x v b.lines start) (flow_points x v rows next rest)
     ∙ (λ i. old ++ (line_points x v b.lines (is i) ++ flow_points x v rows (step i) rest))
     ∙ ap (λ (bs : List Block). old ++ flow_points x v rows p bs) (sym cut)
-
--- ---- at the end
-
-pub walked : {X Y : Type 0} (f : List X → List Y) (xs : List X) (i : ℕ) (out : List Y) → f [] ≡ [] → length xs ≤ i → out ≡ out ++ f (drop i xs)
-walked {X = X} {Y = Y} f xs i out none h = sym (ap (λ (rest : List X). out ++ f rest) (drop_all i xs h) ∙ ap (λ (ys : List Y). out ++ ys) none ∙ append-nil out)

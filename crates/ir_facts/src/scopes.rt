@@ -9,7 +9,7 @@ ghost use Rattle.fact_sources.specs.Above.{is_above as stands_above};
 ghost use Rattle.fact_sources.specs.Apart.{is_listed};
 ghost use Rattle.ir_facts.specs.Askable.{BlocksHaveWidths, LinesHaveWidths};
 ghost use Rattle.ir_facts.specs.Candidates.{block_candidates};
-ghost use Rattle.ir_facts.specs.Clear.{all_inner, all_over, inner_keys, is_barred, is_over, keys_among};
+ghost use Rattle.ir_facts.specs.Clear.{all_inner, all_over, is_barred, is_over, keys_among};
 ghost use Rattle.ir_facts.specs.Scopes.{AreScopes};
 
 use crate::sources::push_block;
@@ -140,24 +140,6 @@ fn push_among<L: Locals>(
     Ok(())
 }
 
-fn push_inner(
-    alloc: Global,
-    keys: &mut Vec<u32>,
-    outside: &HashSet<u32>,
-    block: &Block,
-) -> Result<(), AllocError>
-    requires sized { LinesHaveWidths block.now.lines }
-    ensures { OnOk result (keys.new.items ≡ keys.old.items ++ inner_keys (contains nat_eq outside.now) block.now) }
-{
-    let own = defined(alloc, block)?;
-    let among = Beside {
-        set: outside,
-        but: &own,
-    };
-    push_among(alloc, keys, block, &among)?;
-    Ok(())
-}
-
 fn push_all_inner(
     alloc: Global,
     keys: &mut Vec<u32>,
@@ -168,7 +150,12 @@ fn push_all_inner(
     ensures { OnOk result (keys.new.items ≡ keys.old.items ++ all_inner (contains nat_eq outside.now) blocks.now) }
 {
     for block in blocks {
-        push_inner(alloc, keys, outside, block)?;
+        let own = defined(alloc, block)?;
+        let among = Beside {
+            set: outside,
+            but: &own,
+        };
+        push_among(alloc, keys, block, &among)?;
     }
     Ok(())
 }

@@ -156,7 +156,6 @@ fn push_lines(
     Ok(())
 }
 
-#[tactic(auto, unfolding(crate::specs::Candidates::block_candidates))]
 pub(crate) fn push_block(
     alloc: Global,
     found: &mut Vec<(u32, Operand)>,

@@ -10,6 +10,7 @@ use Rattle.fact_sources.specs.Substitutions.{IsOf, value_in}
 use Rattle.fact_sources.specs.declared.substitution.Substitution.{Substitution}
 use Rattle.ir_facts.specs.Candidates.{blocks_candidates}
 use Rattle.fact_sources.proofs.Unnamed.{blocks_same, nothing, operand_same}
+use Rattle.std.proofs.lemmas.Bool.{false≢true}
 use Rattle.ir_facts.proofs.in_place.forward.Goals as goal
 
 module _ (found : List (ℕ × Operand)) (s : Substitution) (bs : List Block) (are : found ≡ blocks_candidates bs) (of : IsOf found s) where
@@ -44,3 +45,6 @@ returns-clause-made c =
     ∙ same c.as_slice-2.result.now s blocks.items (c.as_slice-2.ensures.value ∙ found) c.in_ok-substitution.ensures in
     let long = ap (λ (bs : List Block). length bs) made ∙ length-map blocks.items (block_edited (λ x. x) (operand_replaced (replacement (blocks_candidates blocks.items)))) ∙ sym blocks.ok.0 in
     take_at new (drop (length new) blocks.items) blocks.len long ∙ made
+
+pub returns-clause-kept : goal.returns-clause-kept
+returns-clause-kept c = λ e. absurd (false≢true (sym e))

@@ -1,5 +1,5 @@
-use Rattle.std.proofs.Common.{◌<◌, Bool, List, length, ap, ◌∙◌, arith, refl}
-use Rattle.std.proofs.lemmas.List.{length-set}
+use Rattle.std.proofs.Common.{◌<◌, Bool, List, length, ap, ◌∙◌, arith, refl, false}
+use Rattle.std.proofs.lemmas.List.{length-set, length-replicate}
 use Rattle.lto_sets.specs.Sets.{contains}
 use Rattle.ir_facts.proofs.Marks.{all_marked, mark_put}
 use Rattle.ir_facts.proofs.points.bits_of.Goals as goal
@@ -20,3 +20,9 @@ pub returns : goal.returns
 returns c =
     all_marked c.loop-place.bits c.args.marks.now c.loop-place.invariant.sized
     (λ k lt. c.loop-place.invariant.done k (omega (arith, lt, c.loop-place-test.false)))
+
+pub loop-place-init : goal.loop-place-init
+loop-place-init c = record {
+  sized = ap length c.in_ok-bits.ensures ∙ length-replicate (length c.args.marks.now) false;
+  done = λ k lt. absurd (omega (arith, lt));
+}

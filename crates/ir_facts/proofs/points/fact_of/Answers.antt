@@ -1,5 +1,5 @@
-use Rattle.std.proofs.Common.{◌++◌, refl, sym, ◌∙◌}
-use Rattle.ir_flow.specs.Narrowing.{marked}
+use Rattle.std.proofs.Common.{◌++◌, refl, sym, ◌∙◌, length, subst, ap}
+use Rattle.ir_flow.specs.Narrowing.{marked, AreSized}
 use Rattle.ir_facts.specs.FactFlow.{flow_points}
 use Rattle.ir_facts.proofs.FactSolutions.{fact_made}
 use Rattle.ir_facts.proofs.points.fact_of.Goals as goal
@@ -17,3 +17,9 @@ returns c =
           ∙ λ i. c.new-marks.ensures.items i ++ flow_points x (sym c.in_ok-value.ensures i) (marked (c.deref.ensures.value i)) 0 (c.as_slice-blocks.ensures i))
           c.in_ok-at.ensures,
     )
+
+pub push_points-requires : goal.push_points-requires
+push_points-requires c = record {
+  long = ap length c.deref.ensures.value ∙ c.in_ok-rows.ensures.0 ∙ sym (ap length c.as_slice-blocks.ensures);
+  sized = subst (AreSized 2) (sym c.deref.ensures.value) c.in_ok-rows.ensures.2;
+}

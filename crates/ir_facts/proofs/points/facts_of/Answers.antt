@@ -1,6 +1,6 @@
-use Rattle.std.proofs.Common.{◌≡◌, ℕ, suc, ◌+◌, ◌++◌, ◌∷◌, [], List, drop, map, subst, sym, ap, ◌∙◌, arith, append-nil}
+use Rattle.std.proofs.Common.{◌≡◌, ℕ, suc, ◌+◌, ◌++◌, ◌∷◌, [], List, drop, map, subst, sym, ap, ◌∙◌, arith, append-nil, length, false}
 use Rattle.std.proofs.Math.Seq.{drop-cons}
-use Rattle.std.proofs.lemmas.List.{drop_all}
+use Rattle.std.proofs.lemmas.List.{drop_all, length-replicate}
 use Rattle.ir_tree.specs.declared.operand.Operand.{Operand}
 use Rattle.ir_facts.specs.Points.{EachIsFact}
 use Rattle.fact_sources.specs.declared.fact.Fact.{Fact}
@@ -35,3 +35,18 @@ returns-clause-listed c =
 
 pub returns-clause-each : goal.returns-clause-each
 returns-clause-each c = c.loop-pair.invariant.each
+
+pub loop-pair-init : goal.loop-pair-init
+loop-pair-init c = record {
+  listed = ap (λ (ts : List Fact). map (λ (t : Fact). (t.local, t.value)) ts ++ c.args.pairs.now) c.in_ok-facts.ensures.items;
+  each = subst (EachIsFact c.args.f.now) (sym c.in_ok-facts.ensures.items) tt;
+}
+
+pub fact_of-requires-clause-formed : goal.fact_of-requires-clause-formed
+fact_of-requires-clause-formed c = c.requires.formed
+
+pub fact_of-requires-clause-graph : goal.fact_of-requires-clause-graph
+fact_of-requires-clause-graph c = c.requires.graph
+
+pub fact_of-requires-clause-sized : goal.fact_of-requires-clause-sized
+fact_of-requires-clause-sized c = ap length c.in_ok-none.ensures ∙ length-replicate 2 false

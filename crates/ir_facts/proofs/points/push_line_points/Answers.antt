@@ -1,5 +1,6 @@
 use Rattle.std.proofs.Common.{◌+◌, ◌++◌, List, drop, sym, ap, ◌∙◌}
-use Rattle.ir_facts.proofs.Walking.{cut_at, line_pushed}
+use Rattle.ir_facts.proofs.Walking.{line_pushed}
+use Rattle.fact_sources.proofs.Stepping.{cut_at}
 use Rattle.std.proofs.lemmas.List.{drop_all}
 use Rattle.ir_tree.specs.declared.instr.Line.{Line}
 use Rattle.ir_facts.specs.Points.{line_points}

@@ -1,13 +1,12 @@
-use Rattle.std.proofs.Common.{◌<◌, refl, ◌+◌, ◌++◌, Bool, List, [], add-one, drop, length, arith, ap, ◌∙◌}
+use Rattle.std.proofs.Common.{◌<◌, refl, ◌+◌, ◌++◌, Bool, List, [], add-one, drop, length, arith, ap, ◌∙◌, ◌≡◌, ℕ, sym, subst}
 use Rattle.std.proofs.lemmas.List.{get_or_default}
 use Rattle.ir_tree.specs.declared.instr.Line.{Line}
 use Rattle.ir_flow.specs.Narrowing.{marked}
 use Rattle.lto_sets.specs.Sets.{contains}
-use Rattle.ir_facts.specs.FactFlow.{opened}
+use Rattle.ir_facts.specs.FactFlow.{opened, flow_points}
 use Rattle.ir_facts.specs.Points.{line_points}
-use Rattle.ir_facts.proofs.Walking.{cut_at, points_pushed}
-use Rattle.ir_facts.specs.FactFlow.{flow_points}
-use Rattle.ir_facts.proofs.Walking.{walked}
+use Rattle.ir_facts.proofs.Walking.{points_pushed}
+use Rattle.fact_sources.proofs.Stepping.{cut_at, walked}
 use Rattle.ir_facts.proofs.points.push_points.Goals as goal
 
 pub loop-place-preserved : goal.loop-place-preserved
@@ -33,3 +32,19 @@ pub returns : goal.returns
 returns c =
     walked (flow_points c.args.local c.args.value.now (marked c.args.rows.now) c.loop-place.place) c.args.blocks.now c.loop-place.place c.loop-place.marks.items refl c.loop-place-test.false
     ∙ c.loop-place.invariant
+
+pub has-requires : goal.has-requires
+has-requires c =
+    let rows = c.args.rows.now in
+    let place = c.loop-place.place in
+    let inside : place < length rows = omega (arith, c.requires.long, c.loop-place-test.true) in
+    let long : length c.index-rows-place.result ≡ 2 = ap length (c.index-rows-place.is ∙ get_or_default rows place c.index-rows-place.result [] inside) ∙ c.requires.sized place inside in
+    subst (λ (n : ℕ). 0 < n) (sym long) (omega arith)
+
+pub has-requires-in-loop-place : goal.has-requires-in-loop-place
+has-requires-in-loop-place c =
+    let rows = c.args.rows.now in
+    let place = c.loop-place.place in
+    let inside : place < length rows = omega (arith, c.requires.long, c.loop-place-test.true) in
+    let long : length c.index-rows-place.result ≡ 2 = ap length (c.index-rows-place.is ∙ get_or_default rows place c.index-rows-place.result [] inside) ∙ c.requires.sized place inside in
+    subst (λ (n : ℕ). 1 < n) (sym long) (omega arith)

@@ -11,6 +11,9 @@ use Rattle.ir_facts.proofs.InPlace.{place_last, place_round}
 use Rattle.ir_facts.proofs.InRounds.{no_rounds, one_more, round_sound}
 use Rattle.ir_facts.proofs.StillApart.{round_apart, round_graph}
 use Rattle.ir_facts.proofs.Widths.{formed_wide}
+use Rattle.ir_tree.specs.Rules.{Sound}
+use Rattle.ir_flow.specs.OfFunction.{IsGraphOf}
+use Rattle.fact_sources.specs.Apart.{IsApart}
 use Rattle.ir_facts.proofs.rounds.+rounds_in_place.Goals as goal
 
 pub returns-then-left-eq0 : goal.returns-then-left-eq0
@@ -78,3 +81,12 @@ returns t c =
       made = one_more c.args.left (with_blocks c.args.f.now blocks) (with_blocks c.args.f.now new) c.in_ok-g.g (omega arith) round c.in_ok-g.ensures.made;
       same = λ e. absurd (false≢true (sym e));
     }
+
+pub rounds-requires-clause-sound : goal.rounds-requires-clause-sound
+rounds-requires-clause-sound t c = subst Sound (sym c.in_ok-whole.ensures) c.requires.sound
+
+pub rounds-requires-clause-graph : goal.rounds-requires-clause-graph
+rounds-requires-clause-graph t c = subst (λ (f : Function). IsGraphOf f c.args.edges.now) (sym c.in_ok-whole.ensures) c.requires.graph
+
+pub rounds-requires-clause-apart : goal.rounds-requires-clause-apart
+rounds-requires-clause-apart t c = subst (λ (f : Function). IsApart f (contains nat_eq c.args.outside.now)) (sym c.in_ok-whole.ensures) c.requires.apart

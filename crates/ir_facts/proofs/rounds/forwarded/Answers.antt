@@ -16,3 +16,15 @@ returns-then-not-used c =
     unused_step c.args.f.now (value_in c.in_ok-substitution.substitution)
     (λ x. c.in_ok-substitution.ensures x ∙ ap (λ (rs : List (ℕ × Operand)). replacement rs x) (c.as_slice.ensures.value ∙ c.in_ok-found.ensures))
     (ap (blocks_name (λ x. is_some (value_in c.in_ok-substitution.substitution x))) (sym c.as_slice-2.ensures) ∙ sym c.is_used-used.ensures ∙ c.if-not-used.true)
+
+pub replaced-requires : goal.replaced-requires
+replaced-requires c = record {
+  sound = c.requires.sound;
+  graph = c.requires.graph;
+  apart = c.requires.apart;
+  found = c.as_slice-3.ensures.value ∙ c.in_ok-found.ensures;
+  whole = λ x. c.in_ok-substitution.ensures x ∙ ap (λ (rs : List (ℕ × Operand)). replacement rs x) (c.as_slice.ensures.value ∙ sym c.as_slice-3.ensures.value);
+}
+
+pub returns : goal.returns
+returns c = c.in_ok-g.ensures

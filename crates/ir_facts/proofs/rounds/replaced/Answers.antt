@@ -43,3 +43,12 @@ returns-then-clear c =
     let f = c.args.f.now in
     applied f c.applied-then-clear.result c.args.found.now c.args.substitution.now c.requires.found c.requires.whole c.applied-then-clear.ensures
     (step_clear f c.requires.sound (contains nat_eq c.args.outside.now) c.requires.apart (c.in_ok-clear.ensures c.if-clear.true))
+
+pub replaced_at_points-requires : goal.replaced_at_points-requires
+replaced_at_points-requires c = record {
+  sound = c.requires.sound;
+  graph = c.requires.graph;
+  apart = c.requires.apart;
+  found = c.requires.found;
+  some = c.as_slice.ensures.value ∙ c.in_ok-some.ensures;
+}

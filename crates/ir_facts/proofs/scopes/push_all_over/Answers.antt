@@ -8,7 +8,7 @@ use Rattle.fact_sources.specs.Above.{is_above}
 use Rattle.ir_facts.specs.Askable.{BlocksHaveWidths}
 use Rattle.ir_facts.proofs.Clearing.{over_pushed}
 use Rattle.ir_facts.specs.Clear.{all_over}
-use Rattle.ir_facts.proofs.Walking.{walked}
+use Rattle.fact_sources.proofs.Stepping.{walked, cut_at}
 use Rattle.ir_facts.proofs.scopes.push_all_over.Goals as goal
 
 pub loop-block-preserved : goal.loop-block-preserved
@@ -33,3 +33,8 @@ returns c =
     walked (all_over (get nat_cmp c.args.places.now) (is_above (dominance c.args.above.now)) c.loop-block.place) c.args.blocks.now c.loop-block.block-index c.loop-block.keys.items refl
     c.loop-block-test.false
     ∙ c.loop-block.invariant.keys
+
+pub push_among-requires : goal.push_among-requires
+push_among-requires c = record {
+  sized = (subst BlocksHaveWidths (cut_at c.args.blocks.now c.loop-block.block-index c.block-item.result c.loop-block-test.true c.block-item.is) c.loop-block.invariant.sized).0;
+}

@@ -1,8 +1,8 @@
 use Rattle.std.proofs.Common.{◌≡◌, refl, ℕ, Global, ◌+◌, ◌++◌, Vec, drop, sym, ap, ◌∙◌}
 use Rattle.ir_facts.specs.Clear.{keys_among}
-use Rattle.ir_facts.proofs.Walking.{cut_at, key_passed, key_pushed}
+use Rattle.ir_facts.proofs.Walking.{key_passed, key_pushed}
+use Rattle.fact_sources.proofs.Stepping.{cut_at, walked}
 use Rattle.ir_facts.proofs.scopes.push_keys.Goals.{then-is_among+in_ok-push, else-is_among}
-use Rattle.ir_facts.proofs.Walking.{walked}
 use Rattle.ir_facts.proofs.scopes.push_keys.Goals as goal
 
 pub loop-pair-preserved : goal.loop-pair-preserved

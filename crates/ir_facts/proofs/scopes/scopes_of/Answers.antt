@@ -1,4 +1,4 @@
-use Rattle.std.proofs.Common.{List, nat_eq, ap, ◌∙◌, subst}
+use Rattle.std.proofs.Common.{List, nat_eq, ap, ◌∙◌, subst, sym}
 use Rattle.std.specs.BTreeMap.{get}
 use Rattle.std.specs.HashSet.{contains}
 use Rattle.std.specs.Ordering.{nat_cmp}
@@ -8,6 +8,7 @@ use Rattle.fact_sources.specs.Above.{is_above}
 use Rattle.fact_sources.specs.Apart.{is_listed}
 use Rattle.fact_sources.specs.Places.{AreNumbered, ArePlaced}
 use Rattle.ir_facts.specs.Clear.{all_inner, all_over}
+use Rattle.ir_facts.specs.Askable.{BlocksHaveWidths}
 use Rattle.ir_facts.proofs.scopes.scopes_of.Goals as goal
 
 pub returns : goal.returns
@@ -21,3 +22,9 @@ returns c =
       numbered = subst (λ (bs : List Block). AreNumbered bs (get nat_cmp c.in_ok-numbers.numbers)) blocks c.in_ok-numbers.ensures;
       above = c.in_ok-above.ensures;
     }
+
+pub inner_of-requires : goal.inner_of-requires
+inner_of-requires c = record { sized = subst BlocksHaveWidths (sym c.as_slice-blocks.ensures) c.requires.sized }
+
+pub over_of-requires : goal.over_of-requires
+over_of-requires c = record { sized = subst BlocksHaveWidths (sym c.as_slice-blocks.ensures) c.requires.sized }

@@ -66,3 +66,11 @@ returns c =
       members f x v p b old c.put.new.row c.put-2.new.row c.opened-start.result c.held_along-held.result c.entry_holds-entered.result at c.requires.row start held entered c.put.ensures
           c.put-2.ensures,
     )
+
+pub put-requires : goal.put-requires
+put-requires c = omega (arith, c.requires.row)
+
+pub put-requires-2 : goal.put-requires-2
+put-requires-2 c =
+    let long = ap length c.put.ensures ∙ length-set c.args.row.now 0 c.held_along-held.result ∙ c.requires.row in
+    omega (arith, long)
