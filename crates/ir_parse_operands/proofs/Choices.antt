@@ -1,5 +1,5 @@
 -- What readers give that choose by the next token, once it is known.
-use Rattle.std.proofs.Common.{◌≡◌, ℕ, Bool, true, false, Option, Some, None, List, [], ◌∷◌, ◌++◌, Result, Ok, refl, ap, ◌∙◌}
+use Rattle.std.proofs.Common.{◌≡◌, ℕ, Bool, true, false, Option, Some, None, List, [], ◌∷◌, ◌++◌, Result, Ok, refl, sym, ap, subst, ◌∙◌}
 use Rattle.ir_lex.specs.declared.token_kind.TokenKind.TheVariants as kinds
 use Rattle.ir_lex.specs.Tok.{Tok}
 use Rattle.ir_tree.specs.declared.operand.Reg.{Reg}
@@ -10,8 +10,10 @@ use Rattle.ir_parse_parts.specs.Classes.{tokens, the_at}
 use Rattle.ir_parse_parts.specs.Metadata.{META}
 use Rattle.ir_parse_parts.specs.MetadataAt.{COMMA, attached_at}
 use Rattle.ir_parse_parts.specs.OperandsAt.{simple_at}
-use Rattle.ir_parse_parts.specs.Readers.{Reader, ◌>>=◌, done, follow, next_is, pick}
+use Rattle.ir_parse_parts.specs.Readers.{Fails, Reader, ◌>>=◌, done, follow, next_is, pick}
+use Rattle.ir_tree.specs.declared.failure.Failure.{Failure}
 use Rattle.ir_parse_operands.specs.Adding.{gathered_at}
+use Rattle.ir_parse_operands.proofs.Additions.{first_fails}
 use Rattle.ir_parse_operands.specs.Addressing.{keep, slots}
 use Rattle.ir_parse_operands.specs.AddressingAt.{attaching_at, behind_comma_at, indexing_at, slots_at, slots_behind_at}
 use Rattle.ir_parse_operands.specs.AlignmentsAt.{align_at, aligned_at}
@@ -72,3 +74,10 @@ index_behind_index front true ts mid a p h e = absurd cc
 index_behind_index front false ts mid a p h e =
     ap (λ (r : Result ((Option Argument × Bool) × List Tok) Fault). follow r (λ (x : Option Argument × Bool). done (keep front x.0, x.1))) (passes_over (among tokens META) attaching_at indexing_at ts h)
     ∙ ap (λ (r : Result (Argument × List Tok) Fault). follow (follow r (λ b. done (Some b, false))) (λ (x : Option Argument × Bool). done (keep front x.0, x.1))) e
+
+pub index_fails : (e : Failure Fault) (front : List Argument) (attached : Bool) (ts : List Tok) → attached ≡ false → next_is (among tokens META) ts ≡ false → Fails e (argument_at ts) → Fails e (gathered_at keep front (behind_comma_at attached) ts)
+unfolding indexing_at
+index_fails e front true ts p h k = absurd cc
+index_fails e front false ts p h k =
+    subst (Fails e) (sym (ap (λ (r : Result ((Option Argument × Bool) × List Tok) Fault). follow r (λ (x : Option Argument × Bool). done (keep front x.0, x.1))) (passes_over (among tokens META) attaching_at indexing_at ts h)))
+    (first_fails e (indexing_at ts) (λ (x : Option Argument × Bool). done (keep front x.0, x.1)) (first_fails e (argument_at ts) (λ b. done (Some b, false)) k))

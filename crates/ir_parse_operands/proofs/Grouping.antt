@@ -39,13 +39,11 @@ address_reached outer name inner ts behind_openings behind_name after e f g =
     ∙ goes_on (λ n. closing_at (reverse outer) >>= λ levels. done (operands.Address (steps n levels))) (global_at behind_openings) name behind_name f
     ∙ goes_on (λ levels. done (operands.Address (steps name levels))) (closing_at (reverse outer) behind_name) inner after g
 
-pub opening_read : (ts behind_word behind_flags behind_paren behind_shape behind_comma after : List Tok) (inbounds : Bool) (shape : Typed) → the_at kinds.GetElementPtr ts ≡ Ok (tt, behind_word) → stepping_at behind_word ≡ Ok (inbounds, behind_flags) → the_at kinds.OpenParen behind_flags ≡ Ok (tt, behind_paren) → memory_shape_at behind_paren ≡ Ok (shape, behind_shape) → the_at kinds.Comma behind_shape ≡ Ok (tt, behind_comma) → pointer_at behind_comma ≡ Ok (tt, after)
+pub opening_read : (ts behind_word behind_flags behind_paren after : List Tok) (inbounds : Bool) (shape : Typed) → the_at kinds.GetElementPtr ts ≡ Ok (tt, behind_word) → stepping_at behind_word ≡ Ok (inbounds, behind_flags) → the_at kinds.OpenParen behind_flags ≡ Ok (tt, behind_paren) → follow (memory_shape_at behind_paren) (λ x. the_at kinds.Comma >>= λ _. pointer_at >>= λ _. done x) ≡ Ok (shape, after)
     → opening_at ts ≡ Ok (shape, after)
 unfolding opening_at opened_at
-opening_read ts behind_word behind_flags behind_paren behind_shape behind_comma after inbounds shape d e f g h i =
+opening_read ts behind_word behind_flags behind_paren after inbounds shape d e f g =
     goes_on (λ _. opened_at) (the_at kinds.GetElementPtr ts) tt behind_word d
     ∙ goes_on (λ _. the_at kinds.OpenParen >>= λ _. memory_shape_at >>= λ x. the_at kinds.Comma >>= λ _. pointer_at >>= λ _. done x) (stepping_at behind_word) inbounds behind_flags e
     ∙ goes_on (λ _. memory_shape_at >>= λ x. the_at kinds.Comma >>= λ _. pointer_at >>= λ _. done x) (the_at kinds.OpenParen behind_flags) tt behind_paren f
-    ∙ goes_on (λ x. the_at kinds.Comma >>= λ _. pointer_at >>= λ _. done x) (memory_shape_at behind_paren) shape behind_shape g
-    ∙ goes_on (λ _. pointer_at >>= λ _. done shape) (the_at kinds.Comma behind_shape) tt behind_comma h
-    ∙ goes_on (λ _. done shape) (pointer_at behind_comma) tt after i
+    ∙ g

@@ -5,7 +5,7 @@ ghost use Rattle.ir_lex.specs.Tok.{tok};
 ghost use Rattle.ir_lex.specs.declared.token_kind.TokenKind.TheVariants.{Comma};
 ghost use Rattle.ir_parse_parts.specs.Alphabet.{among};
 ghost use Rattle.ir_parse_parts.specs.Readers.{Returns, follow};
-ghost use Rattle.ir_parse_operands.specs.Adding.{gathered_at};
+ghost use Rattle.ir_parse_operands.specs.Adding.{gathered_at, pushed_at};
 ghost use Rattle.ir_parse_operands.specs.Addressing.{keep, slots, slots_fit};
 ghost use Rattle.ir_parse_operands.specs.AddressingAt.{addressing_at, behind_comma_at, count_in_at, count_means, further_at, indices_at, many_slots_at, one_slot_at, reserving_at, slots_at, slots_behind_at, steps_at};
 ghost use Rattle.ir_parse_parts.specs.Classes.{tokens, the_at};
@@ -13,6 +13,7 @@ ghost use Rattle.ir_parse_operands.specs.Extents.{all_nest_within, extent_of, ne
 ghost use Rattle.ir_parse_parts.specs.Literals.{IsWidth};
 ghost use Rattle.ir_parse_operands.specs.Listing.{put_at};
 ghost use Rattle.ir_parse_operands.specs.ShapeForms.{NUMBER};
+ghost use Rattle.ir_parse_operands.specs.ValuesAt.{argument_at};
 ghost use Rattle.ir_parse_parts.specs.Shapes.{parts_of};
 
 use crate::adding::push;
@@ -79,7 +80,6 @@ fn slots_fit(shape: &Measured, count: u64) -> bool
 }
 
 /// The count that a literal is, of so many bits, where it is within the limits.
-#[tactic(auto, using(crate::proofs::Counts::count_is))]
 fn fitting_count(shape: &Measured, width: u8, t: &Token) -> Result<u64, TokenFault>
     requires measured { shape.now.extent ≡ extent_of shape.now.typed.shape }
     requires ranged { IsWidth width }
@@ -221,6 +221,18 @@ pub fn reserving_into(
     })
 }
 
+/// Reads an index, and adds it.
+fn argument_into(
+    alloc: Global,
+    indices: &mut Vec<Argument>,
+    tokens: &mut Tokens,
+) -> Result<(), ReaderError>
+    ensures { Returns (λ _. (indices.new.items, tokens.new)) result (pushed_at indices.old.items argument_at tokens.old) }
+{
+    let argument = argument_at(alloc, tokens)?;
+    push(indices, argument)
+}
+
 /// Reads what follows a comma behind an index, or behind an attachment: an index, which is added, or an
 /// attachment, behind which only attachments follow. Returns whether it is an attachment.
 #[tactic(auto, unfolding(crate::specs::AddressingAt::attaching_at, crate::specs::AddressingAt::indexing_at))]
@@ -240,8 +252,7 @@ fn behind_comma_into(
         attached_at(alloc, tokens)?;
         Ok(true)
     } else {
-        let argument = argument_at(alloc, tokens)?;
-        push(indices, argument)?;
+        argument_into(alloc, indices, tokens)?;
         Ok(false)
     }
 }
@@ -298,11 +309,11 @@ pub fn addressing_into(
     ensures { Returns (λ _. (list.new.lines.items, tokens.new)) result (put_at list.old addressing_at tokens.old) }
 {
     let inbounds = stepping_at(tokens)?;
-    let shape = memory_shape_at(alloc, tokens)?;
+    let typed = memory_shape_at(alloc, tokens)?.typed;
     let steps = steps_at(alloc, tokens)?;
     list.put(Instr::Address {
         inbounds,
-        typed: shape.typed,
+        typed,
         base: steps.base,
         indices: Rows::of(steps.indices),
     })

@@ -3,15 +3,17 @@
 
 ghost use Rattle.std.specs.Prelude.{◌≡◌, reverse, IfOk};
 ghost use Rattle.ir_lex.specs.Tok.{tok};
+ghost use Rattle.ir_lex.specs.declared.token_kind.TokenKind.TheVariants.{Comma};
 ghost use Rattle.ir_lex.specs.TokenKinds.{number};
 ghost use Rattle.ir_parse_parts.specs.Alphabet.{among, contains};
-ghost use Rattle.ir_parse_parts.specs.Readers.{Returns};
+ghost use Rattle.ir_parse_parts.specs.Readers.{Returns, done, follow};
 ghost use Rattle.ir_parse_parts.specs.Rules.{is_valued};
 ghost use Rattle.ir_parse_parts.specs.Ahead.{STEPPING};
-ghost use Rattle.ir_parse_parts.specs.Classes.{tokens, refusal, one_of_at};
+ghost use Rattle.ir_parse_parts.specs.Classes.{tokens, refusal, one_of_at, the_at};
 ghost use Rattle.ir_parse_parts.specs.Literals.{IsWidth};
 ghost use Rattle.ir_parse_parts.specs.Operands.{IsReg, global_named};
 ghost use Rattle.ir_parse_operands.specs.Adding.{pushed_at};
+ghost use Rattle.ir_parse_operands.specs.ShapeFormsAt.{memory_shape_at};
 ghost use Rattle.ir_parse_operands.specs.Values.{GLOBAL, NUMBER, index_of, is_inbounds, or_inbounds};
 ghost use Rattle.ir_parse_operands.specs.ValuesAt.{address_at, all_openings_at, argument_at, closing_at, closing_one_at, global_at, index_at, index_number_at, indices_at, opening_at, operand_at, pointed_at, pointer_at, stepping_at};
 
@@ -183,6 +185,16 @@ fn closing_at(
     Ok(levels)
 }
 
+/// Reads the shape that an address is stepped by, and `, ptr`.
+fn pointee_at(alloc: Global, tokens: &mut Tokens) -> Result<Typed, ReaderError>
+    ensures { Returns (λ x. (x, tokens.new)) result (follow (memory_shape_at tokens.old) (λ x behind. follow (the_at Comma behind) (λ _ after. follow (pointer_at after) (λ _. done x)))) }
+{
+    let shape = memory_shape_at(alloc, tokens)?;
+    expect(TokenKind::Comma, tokens)?;
+    pointer_at(tokens)?;
+    Ok(shape.typed)
+}
+
 /// Reads the beginning of a level, and adds it.
 #[tactic(auto, unfolding(crate::specs::ValuesAt::opening_at, crate::specs::ValuesAt::opened_at))]
 fn opening_into(
@@ -195,10 +207,8 @@ fn opening_into(
     expect(TokenKind::GetElementPtr, tokens)?;
     stepping_at(tokens)?;
     expect(TokenKind::OpenParen, tokens)?;
-    let shape = memory_shape_at(alloc, tokens)?;
-    expect(TokenKind::Comma, tokens)?;
-    pointer_at(tokens)?;
-    push(levels, shape.typed)
+    let typed = pointee_at(alloc, tokens)?;
+    push(levels, typed)
 }
 
 /// Reads the beginnings of levels, at least one.

@@ -8,8 +8,8 @@ returns c = grind (arith, addressing_is)
 pub returns-in_err-inbounds : goal.returns-in_err-inbounds
 returns-in_err-inbounds c = grind (arith, addressing_is)
 
-pub returns-in_err-shape : goal.returns-in_err-shape
-returns-in_err-shape c = grind (arith, addressing_is)
+pub returns-in_err-typed : goal.returns-in_err-typed
+returns-in_err-typed c = grind (arith, addressing_is)
 
 pub returns-in_err-steps : goal.returns-in_err-steps
 returns-in_err-steps c = grind (arith, addressing_is)

@@ -108,3 +108,8 @@ shape_at-closed_structure_at-requires-clause-size t c = fits_most c.args.room c.
 
 pub shape_at-returns-in_ok-members-in-Structure-clause-fits : goal.shape_at-returns-in_ok-members-in-Structure-clause-fits
 shape_at-returns-in_ok-members-in-Structure-clause-fits t c = c.closed_structure_at.ensures.fits c.args.room c.in_ok-members-in-Structure.ensures.fits
+
+pub inner_at-returns-clause-exact : goal.inner_at-returns-clause-exact
+inner_at-returns-clause-exact t c =
+    sym c.each.invariant.read
+    ∙ ap (λ (more : Bool). folded behind c.each.members.shapes.items (rest_at c.args.packed (λ s. shape_at c.args.depth (left c.args.packed c.args.room s)) more c.each.members.extent c.each.tokens)) c.each-test.false
