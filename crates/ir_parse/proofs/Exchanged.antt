@@ -178,6 +178,23 @@ outcome_too words words' place place' wide wide' f f' angled front front' h (Err
 pub differ : false ≡ true → ⊥
 differ e = cc
 
+-- a result is one of the two
+pub not_both : {A E : Type 0} (a : A) (e : E) → Ok a ≡ Err e → ⊥
+not_both a e h = cc
+
+-- what holds of one kind of token holds of each of its class
+pub only_number : (P : TokenKind → Type 0) → P kinds.Number → (h : TokenKind) → nat_eq (number h) (number kinds.Number) ≡ true → P h
+only_number P p kinds.Number e = p
+only_number P p h e = absurd (differ e)
+
+pub only_string : (P : TokenKind → Type 0) → P kinds.Str → (h : TokenKind) → contains STRING (number h) ≡ true → P h
+only_string P p kinds.Str e = p
+only_string P p h e = absurd (differ e)
+
+pub only_marker : (P : TokenKind → Type 0) → P kinds.LifetimeMarker → (h : TokenKind) → nat_eq (number h) (number kinds.LifetimeMarker) ≡ true → P h
+only_marker P p kinds.LifetimeMarker e = p
+only_marker P p h e = absurd (differ e)
+
 pub never_angled : (front : List Tok) → front ≡ [] → is_angled front ≡ true → ⊥
 never_angled front n e = differ (ap is_angled (sym n) ∙ e)
 

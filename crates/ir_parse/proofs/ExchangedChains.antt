@@ -18,14 +18,11 @@ use Rattle.ir_parse_parts.specs.declared.fault.TokenFault.{TokenFault}
 use Rattle.ir_parse_parts.specs.Rules.{disjoint}
 use Rattle.ir_parse_parts.specs.Classes.{tokens}
 use Rattle.ir_parse_operands.specs.ShapeForms.{OPEN_BRACE}
-use Rattle.ir_parse.proofs.Exchanged.{Exchanges, OutcomeAt, Place, Stays, Swaps, angled_behind, apart, is_angled, never_angled, nowhere, same_at, Goes, Outcome, Stuck, fair, alike, ends_in_front, err_ends, err_too, fair_at, fair_of, fewer, in_front, joined, ok_too, stands_for, without}
+use Rattle.ir_parse.proofs.Exchanged.{differ, only_number, not_both, Exchanges, OutcomeAt, Place, Stays, Swaps, angled_behind, apart, is_angled, never_angled, nowhere, same_at, Goes, Outcome, Stuck, fair, alike, ends_in_front, err_ends, err_too, fair_at, fair_of, fewer, in_front, joined, ok_too, stands_for, without}
 
 and_parts : (a b : Bool) → a && b ≡ true → (a ≡ true) × (b ≡ true)
 and_parts true b h = (refl, h)
 and_parts false b h = absurd cc
-
-differ : false ≡ true → ⊥
-differ e = cc
 
 module _ {S A : Type 0} (final : S → Bool) (bs : S → List ℕ) (wide : S → Form Tok (A × S)) (f : S → Reader Tok (A × S)) {loose : Bool} {one_place : Place} (place : S → Place) (within_first : (s : S) (front : List Tok) → one_place front tt → place s front tt) (within_further : (s : S) (one two : List Tok) (x : A × S) → wide s one x → place x.1 two tt → place s (one ++ two) tt) (laws : (s : S) → Swaps false loose one_place (wide s) (f s)) (some : (s : S) (x : A × S) → wide s [] x → ⊥)
     (finish : (s : S) → (ts : List Tok) × (as' : List A) × Chain final wide s ts as' × AllReal tokens ts) (fairly : (s : S) → final s ≡ true → fair (bs s) ≡ true) (steady : loose ≡ true → (s : S) → (final s ≡ true) × (disjoint (number kinds.Number ∷ OPEN_BRACE) (bs s) ≡ true)) where
@@ -68,7 +65,7 @@ module _ {S A : Type 0} (final : S → Bool) (bs : S → List ℕ) (wide : S →
       Again = (next : S) (mid : List Tok) (m : List A) → at_most n next mid ≡ reads m rest → (front : List Tok) × (mid ≡ front ++ rest) × of_all next front m
 
       by_rest : Again → (x : A × S) (mid : List Tok) → f s ts ≡ reads x mid → (r : Result (List A × List Tok) Fault) → at_most n x.1 mid ≡ r → follow r (λ m. done (x.0 ∷ m)) ≡ reads as' rest → (front : List Tok) × (ts ≡ front ++ rest) × of_all s front as'
-      by_rest again x mid e (Err d) i h = absurd cc
+      by_rest again x mid e (Err d) i h = absurd (not_both _ _ (sym h))
       by_rest again x mid e (Ok y) i h =
           let r = reads_is (x.0 ∷ y.0) as' y.1 rest h in
           let p = (laws s).sound ts mid x e in
@@ -76,7 +73,7 @@ module _ {S A : Type 0} (final : S → Bool) (bs : S → List ℕ) (wide : S →
           (p.0 ++ q.0, p.1 ∙ ap (λ (z : List Tok). p.0 ++ z) q.1 ∙ sym (append_assoc p.0 q.0 rest), subst (λ (z : List A). of_all s (p.0 ++ q.0) z) r.0 (p.0, q.0, x.1, refl, p.2, q.2))
 
       by_piece : Again → (r : Result ((A × S) × List Tok) Fault) → f s ts ≡ r → follow r (further n) ≡ reads as' rest → (front : List Tok) × (ts ≡ front ++ rest) × of_all s front as'
-      by_piece again (Err d) e h = absurd cc
+      by_piece again (Err d) e h = absurd (not_both _ _ (sym h))
       by_piece again (Ok x) e h = by_rest again x.0 x.1 e (at_most n x.0.1 x.1) refl h
 
       by_stop : Again → (b : Bool) → stop s ts ≡ b → cond b (reads {A = List A} [] ts) (follow (f s ts) (further n)) ≡ reads as' rest → (front : List Tok) × (ts ≡ front ++ rest) × of_all s front as'
@@ -98,7 +95,7 @@ module _ {S A : Type 0} (final : S → Bool) (bs : S → List ℕ) (wide : S →
       Again = (next : S) (mid : List Tok) (d : Fault) → at_most n next mid ≡ wrong d → Placed mid d
 
       by_rest : Again → (x : A × S) (mid : List Tok) → f s ts ≡ reads x mid → (r : Result (List A × List Tok) Fault) → at_most n x.1 mid ≡ r → follow r (λ m. done (x.0 ∷ m)) ≡ wrong e → Placed ts e
-      by_rest again x mid i (Ok y) j h = absurd cc
+      by_rest again x mid i (Ok y) j h = absurd (not_both _ _ h)
       by_rest again x mid i (Err d) j h =
           let p = (laws s).sound ts mid x i in
           let q = again x.1 mid d j in
@@ -172,7 +169,7 @@ module _ {S A : Type 0} (final : S → Bool) (bs : S → List ℕ) (wide : S →
   nothing_read front t rest (Ok m) h =
       let p = reads_is [] m (front ++ t ∷ rest) (t ∷ rest) h in
       ((cut_is front (t ∷ rest) [] (t ∷ rest) p.1 refl).0, ap (λ (x : List A). Ok x) (sym p.0))
-  nothing_read front t rest (Err k) h = absurd cc
+  nothing_read front t rest (Err k) h = absurd (not_both _ _ h)
 
   same_stop : (s : S) (front : List Tok) (t : Tok) (rest rest' : List Tok) → stop s (front ++ t ∷ rest) ≡ stop s (front ++ t ∷ rest')
   same_stop s [] t rest rest' = refl
@@ -282,15 +279,13 @@ module _ {S A : Type 0} (final : S → Bool) (bs : S → List ℕ) (wide : S →
           stop_at u us e' = ap (λ (b : Bool). b && not (contains (bs next) (number u.kind))) (steady e next).0 ∙ ap not e'
 
           brace : (u : Tok) → among tokens (stands_for true t.kind) u ≡ true → contains (bs next) (number u.kind) ≡ false
-          brace u i = apart (number kinds.Number ∷ OPEN_BRACE) (bs next) (steady e next).1 (number u.kind) (by_head t.kind q i)
-            where
-              by_head : (h : TokenKind) → nat_eq (number h) (number kinds.Number) ≡ true → contains (stands_for true h) (number u.kind) ≡ true → contains (number kinds.Number ∷ OPEN_BRACE) (number u.kind) ≡ true
-              by_head kinds.Number q i = within_of OPEN_BRACE (number kinds.Number ∷ OPEN_BRACE) refl (number u.kind) i
-              by_head h q i = absurd cc
+          brace u i =
+              apart (number kinds.Number ∷ OPEN_BRACE) (bs next) (steady e next).1 (number u.kind)
+              (only_number (λ (h : TokenKind). contains (stands_for true h) (number u.kind) ≡ true → contains (number kinds.Number ∷ OPEN_BRACE) (number u.kind) ≡ true) (within_of OPEN_BRACE (number kinds.Number ∷ OPEN_BRACE) refl (number u.kind)) t.kind q i)
 
           by_end : (o : Result (List A) TokenFault) → reads [] (t ∷ rest) ≡ ends o (t ∷ rest) → OutcomeAt false (place next) (of_all next) (at_most n next) true [] t.kind o
           by_end (Ok m) d = inl (λ u i rest'. stop_gives n next (u ∷ rest') (stop_at u rest' (brace u i)) ∙ ap (λ (z : List A). reads z (u ∷ rest')) (reads_is [] m (t ∷ rest) (t ∷ rest) d).0)
-          by_end (Err k) d = absurd cc
+          by_end (Err k) d = absurd (not_both _ _ d)
 
       piece_ok : Keeps s front t rest → (x : A × S) (mid : List Tok) (o : Result (List A) TokenFault) (c : Cut s front (t ∷ rest) x mid) → at_most n x.1 (c.two ++ t ∷ rest) ≡ ends o (t ∷ rest) → Outcome false (place x.1) (of_all x.1) (at_most n x.1) c.two t.kind o → Outcome false (place s) (of_all s) here_at front t.kind (joined x.0 o)
       piece_ok keeps x mid o c d p = subst (λ (y : List Tok). Outcome false (place s) (of_all s) here_at y t.kind (joined x.0 o)) (sym c.front_is) (by_two c.two (λ u i rest'. ap (λ (y : List Tok). stop s (y ++ u ∷ rest')) (sym c.front_is) ∙ keeps u (subst (λ (y : List Tok). among tokens (stands_for (is_angled y) t.kind) u ≡ true) (sym c.front_is) i) rest' ∙ here) c.piece d p)

@@ -77,7 +77,7 @@ never_closing (b ∷ bs) (v ∷ front) t rest k d e = by_moved (λ stack d'. nev
 -- `<` closes none
 angle_stays : (h : TokenKind) → contains OPEN_ANGLE (number h) ≡ true → move_of h ≡ balanced.stays
 angle_stays kinds.OpenAngle e = refl
-angle_stays h e = absurd cc
+angle_stays h e = absurd (differ e)
 
 -- what is open stays so where nothing is read
 still_open : (b : Bracket) (bs : List Bracket) (rest : List Tok) → closing_at brackets (b ∷ bs) rest ≡ reads tt rest → ⊥

@@ -47,7 +47,7 @@ use Rattle.ir_parse.specs.ItemFormsAt.{SOURCE, TARGET, COMDAT, DECLARE, NAMING, 
 use Rattle.ir_parse.proofs.ItemRules.{there_rule}
 use Rattle.ir_parse.specs.Refusals.{MEMORY, WORD}
 use Rattle.ir_parse.specs.NamedCalls.{in_definition}
-use Rattle.ir_parse.proofs.Exchanged.{Exchanges, Goes, Place, Swapping, Swaps, alt_loosely, is_angled, loosely, value_loosely, nowhere, alt, alt_by, seq_from, fair, nothing, same_reader, seq, star, taken, tested, Outcome, outcome_too, stands_for, apart, passed, taken_first, IsTold, Stuck, is_target, target_is, placed_of}
+use Rattle.ir_parse.proofs.Exchanged.{differ, Exchanges, Goes, Place, Swapping, Swaps, alt_loosely, is_angled, loosely, value_loosely, nowhere, alt, alt_by, seq_from, fair, nothing, same_reader, seq, star, taken, tested, Outcome, outcome_too, stands_for, apart, passed, taken_first, IsTold, Stuck, is_target, target_is, placed_of}
 use Rattle.ir_parse.proofs.ExchangedAttributes.{attribute_group_exchanged, head_attribute_exchanged}
 use Rattle.ir_parse.proofs.ExchangedBlocks.{definition_exchanged}
 use Rattle.ir_parse.proofs.ExchangedChains.{chain_behind}
@@ -271,7 +271,7 @@ unnumbered kinds.RegisterInteger u i = apart MEMORY NUMBERED_NAME refl (number u
 unnumbered kinds.NumberedGlobal u i = apart (number kinds.Global ∷ []) NUMBERED_NAME refl (number u.kind) i
 unnumbered kinds.NumberedDefinition u i = apart (number kinds.Global ∷ []) NUMBERED_NAME refl (number u.kind) i
 unnumbered kinds.Str u i = apart STRING NUMBERED_NAME refl (number u.kind) i
-unnumbered h u i = absurd cc
+unnumbered h u i = absurd (differ i)
 
 named_is_piece : (before : Before) (names : ℕ) (front : List Tok) (u : Tok) → Goes (any_named names) front u → Goes (any_piece before names) front u
 unfolding any_piece form.either
@@ -294,7 +294,7 @@ module _ (room : ℕ) (before : Before) (names : ℕ) where
     where
       by_head : (h : TokenKind) → contains NUMBERED_NAME (number h) ≡ true → IsTold false h (Stuck (named_with room names) []) (Goes (any_named names) []) → IsTold false h (Stuck (piece_with room before names) []) (Goes whole_piece [])
       by_head kinds.NumberedGlobal e (u, i, g) = (u, i, named_is_piece before names [] u g)
-      by_head h e n = absurd cc
+      by_head h e n = absurd (differ e)
 
   swap_numbered : (t : Tok) (rest : List Tok) (o : Result (Option Item × Position) TokenFault) → among tokens NUMBERED_NAME t ≡ true → named_with room names (t ∷ rest) ≡ ends o (t ∷ rest) → Outcome false in_definition whole_piece (piece_with room before names) [] t.kind o
   swap_numbered t rest o e d =

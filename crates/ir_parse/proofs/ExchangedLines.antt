@@ -27,7 +27,7 @@ use Rattle.ir_parse_bodies.specs.declared.opcodes.Operation.{Operation}
 use Rattle.ir_parse_bodies.proofs.LineRules.{any_name}
 use Rattle.ir_parse_bodies.proofs.Samples.{add_real}
 use Rattle.ir_parse.specs.NamedCalls.{before_callee, before_named_callee}
-use Rattle.ir_parse.proofs.Exchanged.{differ, Exchanges, Exchanging, Place, Swapping, alt_by, loosened, nothing, nowhere, placed_none, placed_too, recast, seq, seq_into, seq_to, with_value}
+use Rattle.ir_parse.proofs.Exchanged.{differ, not_both, Exchanges, Exchanging, Place, Swapping, alt_by, loosened, nothing, nowhere, placed_none, placed_too, recast, seq, seq_into, seq_to, with_value}
 use Rattle.ir_parse.proofs.ExchangedAddressing.{addressing_exchanged, reserving_exchanged}
 use Rattle.ir_parse.proofs.ExchangedCalls.{call_word_exchanged, named_calling_exchanged, unnamed_calling_exchanged}
 use Rattle.ir_parse.proofs.ExchangedInstructions.{casting_exchanged, comparing_exchanged, dividing_exchanged, extending_exchanged, freezing_exchanged, joining_exchanged, narrowing_exchanged, on_two_exchanged, selecting_exchanged, wrapping_exchanged}
@@ -139,18 +139,18 @@ opcode_place t ts e v = by_head t.kind refl e v
 abbrev behind_equals : Place
 behind_equals = form.◌>>=◌ (one_of GIVING opcode_of) (λ o. behind_place true o)
 
+opcode_is : (o o' : Opcode) → good o ≡ good o' → o ≡ o'
+opcode_is o o' q = cc
+
 giving_place : (front : List Tok) → behind_equals front tt → call_place front tt
 unfolding form.◌>>=◌ is_among
 giving_place front ([], two, o, e, s, v) = absurd s
 giving_place front (t ∷ u ∷ one, two, o, e, s, v) = absurd s
 giving_place front (t ∷ [], two, o, e, s, v) = by_test (among tokens GIVING t) refl s
   where
-    opcode_is : (o o' : Opcode) → good o ≡ good o' → o ≡ o'
-    opcode_is o o' q = cc
-
     by_test : (b : Bool) → among tokens GIVING t ≡ b → cond b (good (opcode_of t)) (Err (refusal (number t.kind))) ≡ good o → call_place front tt
     by_test true q s = subst (λ (ts : List Tok). call_place ts tt) (sym e) (opcode_place t two q (subst (λ (x : Opcode). behind_place true x two tt) (sym (opcode_is (opcode_of t) o s)) v))
-    by_test false q s = absurd cc
+    by_test false q s = absurd (not_both _ _ (sym s))
 
 pub line_behind_exchanged : (name : Tok) → Swapping true (form.◌>>=◌ (the kinds.Equals) (λ _. call_place)) (line_behind any_slots any_shape name) (line_behind_at name)
 unfolding line_behind line_behind_at

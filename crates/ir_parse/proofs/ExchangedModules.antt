@@ -35,7 +35,7 @@ use Rattle.ir_parse.specs.Modules.{FURTHER_PARAMETERS, GLOBAL_NAMES, any_module,
 use Rattle.ir_parse.proofs.ItemRules.{ANY, items_rule, there_rule}
 use Rattle.ir_parse.specs.NamedCalls.{in_module}
 use Rattle.ir_parse_operands.specs.ShapeForms.{OPEN_BRACE}
-use Rattle.ir_parse.proofs.Exchanged.{differ, Goes, IsTold, NotTold, Outcome, OutcomeAt, Stays, is_angled, SOMEWHERE, STAND_INS, Stuck, Swaps, placed_too, value_loosely, taken, apart, passed, taken_first}
+use Rattle.ir_parse.proofs.Exchanged.{differ, not_both, only_marker, only_number, only_string, Goes, IsTold, NotTold, Outcome, OutcomeAt, Stays, is_angled, SOMEWHERE, STAND_INS, Stuck, Swaps, placed_too, value_loosely, taken, apart, passed, taken_first}
 use Rattle.ir_parse.proofs.ExchangedItems.{NUMBERED_NAME, STARTS, TYPES, all_items_at, all_items_exchanged, in_items, named_with, naming_with, numbered_is, numbered_told, piece_exchanged, piece_there, piece_with, starts_there, unnamed_refuses, within_at}
 
 -- ---- at each token that begins an item the two are the same
@@ -235,21 +235,19 @@ all_never front t rest is d e = by_result (all_items_at FURTHER_PARAMETERS (firs
   where
     by_result : (r : Result (List (Option Item) × List Tok) Fault) → all_items_at FURTHER_PARAMETERS (first_place GLOBAL_NAMES) (front ++ t ∷ rest) ≡ r → follow r (λ all. done (fold keep [] all)) ≡ reads is (t ∷ rest) → ⊥
     by_result (Ok y) q d = never_before FURTHER_PARAMETERS (suc (length (front ++ t ∷ rest))) (first_place GLOBAL_NAMES) (front ++ t ∷ rest) y.0 t rest (q ∙ ap (λ (z : List Tok). reads y.0 z) (reads_is (fold keep [] y.0) is y.1 (t ∷ rest) d).1) e
-    by_result (Err f) q d = cc
+    by_result (Err f) q d = not_both _ _ (sym d)
 
 -- at an item's place a lifetime marker is told to be left out
 marker_told : (front : List Tok) (t : Tok) → nat_eq (number t.kind) (number kinds.LifetimeMarker) ≡ true → Outcome false in_module any_module all_at front t.kind (Err (item_refusal t))
-marker_told front t e = subst (λ (k : TokenFault). Outcome false in_module any_module all_at front t.kind (Err k)) (sym (ap name_refusal (same (number t.kind) (number kinds.LifetimeMarker) e))) (by_head t.kind e)
-  where
-    by_head : (h : TokenKind) → nat_eq (number h) (number kinds.LifetimeMarker) ≡ true → Outcome false in_module any_module all_at front h (Err Profile)
-    by_head kinds.LifetimeMarker e = tt
-    by_head h e = absurd (differ e)
+marker_told front t e =
+    subst (λ (k : TokenFault). Outcome false in_module any_module all_at front t.kind (Err k)) (sym (ap name_refusal (same (number t.kind) (number kinds.LifetimeMarker) e)))
+    (only_marker (λ (h : TokenKind). Outcome false in_module any_module all_at front h (Err Profile)) tt t.kind e)
 
 pub module_exchanged : (front : List Tok) (t : Tok) (rest : List Tok) (k : TokenFault) → module_of (front ++ t ∷ rest) ≡ wrong (record { left = length (t ∷ rest); kind = k }) → contains SOMEWHERE (number t.kind) ≡ true → Outcome false in_module any_module all_at front t.kind (Err k)
 module_exchanged front t rest k d e = by_result (all_at (front ++ t ∷ rest)) refl (module_is (front ++ t ∷ rest) ∙ d)
   where
     by_end : (is : List Item) (left : List Tok) → all_at (front ++ t ∷ rest) ≡ reads is left → ended item_refusal is left ≡ wrong (record { left = length (t ∷ rest); kind = k }) → Outcome false in_module any_module all_at front t.kind (Err k)
-    by_end is [] q h = absurd cc
+    by_end is [] q h = absurd (not_both _ _ h)
     by_end is (u ∷ us) q h =
         let l : length (u ∷ us) ≡ length (t ∷ rest) = ap (λ (x : Fault). x.left) (wrong_is {X = List Item} (record { left = length (u ∷ us); kind = item_refusal u }) (record { left = length (t ∷ rest); kind = k }) h) in
         let s = all_exchanged.sound (front ++ t ∷ rest) (u ∷ us) is q in
@@ -327,7 +325,7 @@ module _ (classes : List ℕ) (angled : Bool) (front : List Tok) (t : Tok) (q : 
   placed rest k d = by_result (all_at (front ++ t ∷ rest)) refl (module_is (front ++ t ∷ rest) ∙ d)
     where
       by_end : (is : List Item) (left : List Tok) → all_at (front ++ t ∷ rest) ≡ reads is left → ended item_refusal is left ≡ wrong (record { left = length (t ∷ rest); kind = k }) → Placed classes front k
-      by_end is [] e h = absurd cc
+      by_end is [] e h = absurd (not_both _ _ h)
       by_end is (u ∷ us) e h =
           let f = wrong_is {X = List Item} (record { left = length (u ∷ us); kind = item_refusal u }) (record { left = length (t ∷ rest); kind = k }) h in
           let s = all_exchanged.sound (front ++ t ∷ rest) (u ∷ us) is e in
@@ -348,18 +346,23 @@ refused_syntax class e u i = by_test (nat_eq (number u.kind) class) refl i
 
 -- ---- a number directly behind `<`, where `{` goes on
 
+one_of_one : (n m : ℕ) → contains (m ∷ []) n ≡ true → nat_eq n m ≡ true
+one_of_one n m e = by_test (nat_eq n m) e
+  where
+    by_test : (b : Bool) → b || false ≡ true → b ≡ true
+    by_test true e = refl
+    by_test false e = absurd (differ e)
+
 number_told : (h : TokenKind) (S G : Tok → Type 0) → contains (number kinds.Number ∷ []) (number h) ≡ true → IsTold true h S G → (u : Tok) × (among tokens OPEN_BRACE u ≡ true) × G u
-number_told kinds.Number S G e n = n refl
-number_told h S G e n = absurd (differ e)
+number_told h S G e n = only_number (λ (h : TokenKind). IsTold true h S G → (u : Tok) × (among tokens OPEN_BRACE u ≡ true) × G u) (λ n. n refl) h (one_of_one (number h) (number kinds.Number) e) n
 
 number_not : (h : TokenKind) (S G : Tok → Type 0) (P : Type 0) → contains (number kinds.Number ∷ []) (number h) ≡ true → NotTold true h S G P → (u : Tok) → among tokens OPEN_BRACE u ≡ true → S u
-number_not kinds.Number S G P e n = n refl
-number_not h S G P e n = absurd (differ e)
+number_not h S G P e n = only_number (λ (h : TokenKind). NotTold true h S G P → (u : Tok) → among tokens OPEN_BRACE u ≡ true → S u) (λ n. n refl) h (one_of_one (number h) (number kinds.Number) e) n
 
 number_stays : (h : TokenKind) (is : List Item) (front : List Tok) → contains (number kinds.Number ∷ []) (number h) ≡ true → OutcomeAt false in_module any_module all_at true front h (Ok is) → (u : Tok) → among tokens OPEN_BRACE u ≡ true → Stays all_at front is u
-number_stays kinds.Number is front e (inl stays) = stays
-number_stays kinds.Number is front e (inr w) = absurd w.1
-number_stays h is front e o = absurd (differ e)
+number_stays h is front e o =
+    only_number (λ (h : TokenKind). OutcomeAt false in_module any_module all_at true front h (Ok is) → (u : Tok) → among tokens OPEN_BRACE u ≡ true → Stays all_at front is u) (λ o. elim o [ inl stays ↦ stays | inr w ↦ absurd w.1 ]) h
+    (one_of_one (number h) (number kinds.Number) e) o
 
 pub vector_placed : (front : List Tok) (t : Tok) → among tokens (number kinds.Number ∷ []) t ≡ true → is_angled front ≡ true → (rest : List Tok) (k : TokenFault) → module_of (front ++ t ∷ rest) ≡ wrong (record { left = length (t ∷ rest); kind = k }) → Placed OPEN_BRACE front k
 vector_placed front t n q =
@@ -368,17 +371,14 @@ vector_placed front t n q =
 -- ---- a string, where another goes on
 
 string_told : (b : Bool) (h : TokenKind) (S G : Tok → Type 0) → contains STRING (number h) ≡ true → IsTold b h S G → (u : Tok) × (among tokens STRING u ≡ true) × G u
-string_told b kinds.Str S G e n = n
-string_told b h S G e n = absurd (differ e)
+string_told b h S G e n = only_string (λ (h : TokenKind). IsTold b h S G → (u : Tok) × (among tokens STRING u ≡ true) × G u) (λ n. n) h e n
 
 string_not : (b : Bool) (h : TokenKind) (S G : Tok → Type 0) (P : Type 0) → contains STRING (number h) ≡ true → NotTold b h S G P → (u : Tok) → among tokens STRING u ≡ true → S u
-string_not b kinds.Str S G P e n = n
-string_not b h S G P e n = absurd (differ e)
+string_not b h S G P e n = only_string (λ (h : TokenKind). NotTold b h S G P → (u : Tok) → among tokens STRING u ≡ true → S u) (λ n. n) h e n
 
 string_stays : (b : Bool) (h : TokenKind) (is : List Item) (front : List Tok) → contains STRING (number h) ≡ true → OutcomeAt false in_module any_module all_at b front h (Ok is) → (u : Tok) → among tokens STRING u ≡ true → Stays all_at front is u
-string_stays b kinds.Str is front e (inl stays) = stays
-string_stays b kinds.Str is front e (inr w) = absurd w.1
-string_stays b h is front e o = absurd (differ e)
+string_stays b h is front e o =
+    only_string (λ (h : TokenKind). OutcomeAt false in_module any_module all_at b front h (Ok is) → (u : Tok) → among tokens STRING u ≡ true → Stays all_at front is u) (λ o. elim o [ inl stays ↦ stays | inr w ↦ absurd w.1 ]) h e o
 
 pub string_placed : (front : List Tok) (t : Tok) → among tokens STRING t ≡ true → (rest : List Tok) (k : TokenFault) → module_of (front ++ t ∷ rest) ≡ wrong (record { left = length (t ∷ rest); kind = k }) → Placed STRING front k
 string_placed front t n =

@@ -36,7 +36,7 @@ use Rattle.ir_parse_operands.proofs.ShapeRules.{nested}
 use Rattle.ir_parse_parts.proofs.Singles.{mark, open_angle_real, open_brace_real, open_bracket_real, word}
 use Rattle.ir_parse_parts.proofs.Words.{int_32_real}
 use Rattle.ir_parse.specs.Refusals.{MEMORY}
-use Rattle.ir_parse.proofs.Exchanged.{Exchanges, Goes, IsTold, OutcomeAt, Stuck, Swaps, alt, barred, differ, err_ends, nothing, nowhere, recast, same_at, seq, seq_by, single, token_begins}
+use Rattle.ir_parse.proofs.Exchanged.{only_number, Exchanges, Goes, IsTold, OutcomeAt, Stuck, Swaps, alt, barred, differ, err_ends, nothing, nowhere, recast, same_at, seq, seq_by, single, token_begins}
 use Rattle.ir_parse.proofs.ExchangedChains.{chain}
 use Rattle.ir_parse.proofs.ExchangedTokens.{angle_says, class_outside, loose_one, of_token, one_sample, plain_class, plain_valued, refuses_angle, says_shaped}
 use Rattle.ir_parse.proofs.ExchangedWords.{close_angle_exchanged, close_brace_exchanged, close_bracket_exchanged, comma_exchanged}
@@ -189,8 +189,7 @@ module _ {B : Type 0} {wide : Unit {0} → Form Tok B} {h : Unit {0} → Reader 
   number_told t rest e = ap (λ (n : ℕ). follow (token_means t rest (cond (nat_eq n (number kinds.OpenBrace)) (fine tt) (Err (angle_refusal n)))) h) (same (number t.kind) (number kinds.Number) e)
 
   told_number : (k : TokenKind) → nat_eq (number k) (number kinds.Number) ≡ true → IsTold true k (Stuck behind_one_at []) (Goes behind_one [])
-  told_number kinds.Number e = λ _. brace_goes
-  told_number k e = absurd cc
+  told_number = only_number (λ (k : TokenKind). IsTold true k (Stuck behind_one_at []) (Goes behind_one [])) (λ _. brace_goes)
 
   after_angle : (t : Tok) (rest : List Tok) (o : Result B TokenFault) → behind_one_at (t ∷ rest) ≡ ends o (t ∷ rest) → OutcomeAt false nowhere behind_one behind_one_at true [] t.kind o
   after_angle t rest o d = by_test (nat_eq (number t.kind) (number kinds.Number)) refl

@@ -25,8 +25,8 @@ use Rattle.ir_parse_parts.specs.declared.raw.Item.TheVariants.{Datalayout, Tripl
 use Rattle.ir_parse_parts.proofs.Singles.{sample, word, the_rule, string_real}
 use Rattle.ir_parse_operands.specs.ShapeForms.{OPEN_ANGLE}
 use Rattle.ir_parse.specs.Refusals.{MEMORY}
-use Rattle.ir_parse.proofs.Exchanged.{Exchanges, Says, alt, nothing, seq, single, apart}
-use Rattle.ir_parse.proofs.ExchangedTokens.{elsewhere, i8_real, one_sample, plain_class, not_bound}
+use Rattle.ir_parse.proofs.Exchanged.{differ, only_string, Exchanges, Says, alt, nothing, seq, single, apart}
+use Rattle.ir_parse.proofs.ExchangedTokens.{by_telling, elsewhere, i8_real, one_sample, plain_class, not_bound}
 use Rattle.ir_parse.proofs.ExchangedWords.{equals_exchanged, string_exchanged}
 
 any_word_real : IsReal (word kinds.Any (codes "any"))
@@ -118,20 +118,21 @@ no_string bs d u i = layout_stuck u (apart bs STRING d (number u.kind) i)
 
 -- where no string stands
 layout_class : (h : TokenKind) → contains STRING (number h) ≡ false → Says (form.token is_layout) is_layout h (refusal (number h))
-layout_class kinds.RefusedType n = no_string REG refl
-layout_class kinds.Target n = inl (no_string REG refl)
-layout_class kinds.RegisterInteger n = (word kinds.MemoryInteger (codes "i8"), refl, i8_real, no_string MEMORY refl (word kinds.MemoryInteger (codes "i8")) refl)
-layout_class kinds.NumberedGlobal n = no_string (number kinds.Global ∷ []) refl
-layout_class kinds.NumberedDefinition n = no_string (number kinds.Global ∷ []) refl
-layout_class kinds.LifetimeMarker n = tt
-layout_class kinds.Str n = absurd cc
-layout_class h n = elsewhere (form.token is_layout) is_layout h (refusal (number h)) (λ q. cc)
+layout_class =
+    by_telling (λ (h : TokenKind). contains STRING (number h) ≡ false → Says (form.token is_layout) is_layout h (refusal (number h)))
+    (λ n. no_string REG refl)
+    (λ n. inl (no_string REG refl))
+    (λ n. (word kinds.MemoryInteger (codes "i8"), refl, i8_real, no_string MEMORY refl (word kinds.MemoryInteger (codes "i8")) refl))
+    (λ n. no_string (number kinds.Global ∷ []) refl)
+    (λ n. no_string (number kinds.Global ∷ []) refl)
+    (λ n. tt)
+    (λ n. absurd (differ (sym n)))
+    (λ h q n. elsewhere (form.token is_layout) is_layout h (refusal (number h)) q)
 
 -- where one does that isn't supported, the empty one goes on
-layout_told : (h : TokenKind) → nat_eq (number h) (number kinds.Str) ≡ true → Says (form.token is_layout) is_layout h Profile
+layout_told : (h : TokenKind) → contains STRING (number h) ≡ true → Says (form.token is_layout) is_layout h Profile
 unfolding empty_string
-layout_told kinds.Str e = (empty_string, refl, ([], empty_string, empty_fits, (empty_real, tt)))
-layout_told h e = absurd cc
+layout_told = only_string (λ (h : TokenKind). Says (form.token is_layout) is_layout h Profile) (empty_string, refl, ([], empty_string, empty_fits, (empty_real, tt)))
 
 layout_says : (t : Tok) (k : TokenFault) → is_layout t ≡ Err k → Says (form.token is_layout) is_layout t.kind k
 unfolding is_layout
@@ -145,7 +146,7 @@ layout_says t k d = by_class (nat_eq (number t.kind) (number kinds.Str)) refl d
     by_fit false e = err_is Profile k e
 
     by_class : (b : Bool) → nat_eq (number t.kind) (number kinds.Str) ≡ b → cond b (cond (fits_layout (content t.form t.text)) (Ok t) (failed Profile)) (failed (refusal (number t.kind))) ≡ failed k → Says (form.token is_layout) is_layout t.kind k
-    by_class true p d = subst (λ (x : TokenFault). Says (form.token is_layout) is_layout t.kind x) (by_fit (fits_layout (content t.form t.text)) d) (layout_told t.kind p)
+    by_class true p d = subst (λ (x : TokenFault). Says (form.token is_layout) is_layout t.kind x) (by_fit (fits_layout (content t.form t.text)) d) (layout_told t.kind (ap (λ (b : Bool). b || false) p))
     by_class false p d = subst (λ (x : TokenFault). Says (form.token is_layout) is_layout t.kind x) (err_is (refusal (number t.kind)) k d) (layout_class t.kind (ap (λ (b : Bool). b || false) p))
 
 pub layout_exchanged : Exchanges (form.token is_layout) (token_at is_layout)

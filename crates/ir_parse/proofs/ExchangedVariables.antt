@@ -1,5 +1,5 @@
 -- The readers of variables tell a token that is left out in some places where one that it stands for goes on.
-use Rattle.std.proofs.Common.{◌≡◌, Bool, true, false, Option, None, [], ◌∷◌, refl, ◌∙◌}
+use Rattle.std.proofs.Common.{Bool, true, false, Option, None, refl}
 use Rattle.std.specs.Prelude.{codes}
 use Rattle.ir_lex.specs.Tok.{Tok}
 use Rattle.ir_lex.specs.declared.token_kind.TokenKind.TheVariants as kinds

@@ -1,6 +1,7 @@
 pub mod ItemLoops
 pub mod ItemRules
 pub mod Putting
+mod Beginnings
 mod Gives
 mod Marked
 mod KnownFunctions

@@ -22,6 +22,7 @@ use Rattle.ir_tree.specs.declared.instr.Flags.{Flags}
 use Rattle.ir_parse.specs.Written.{LineWritten}
 use Rattle.ir_parse.proofs.Addresses.{addressing_written, reserving_written}
 use Rattle.ir_parse.proofs.Calls.{calling_written, tail_calling_written}
+use Rattle.ir_parse.proofs.Exchanged.{differ}
 use Rattle.ir_parse.proofs.Instructions.{Named, casting_written, comparing_written, dividing_written, extending_written, freezing_written, joining_written, loading_written, narrowing_written, on_two_written, selecting_written, storing_written, wrapping_written}
 use Rattle.ir_parse.proofs.Means.{Means, among_means, either_means, follow, nothing, skip}
 use Rattle.ir_parse.proofs.Phis.{phi_written}
@@ -64,7 +65,7 @@ fits_none opcodes.Store = refl
 fits_none o = tt
 
 fits_by : (name : Option Tok) (h : TokenKind) → contains GIVING (number h) ≡ true → Fits name (opcode_by h)
-fits_by name kinds.Store c = absurd cc
+fits_by name kinds.Store c = absurd (differ c)
 fits_by name h c = tt
 
 -- ---- what follows them

@@ -64,6 +64,7 @@ use Rattle.ir_parse.specs.ItemFormsAt.{DECLARE, NAMING, beginnings, begins_there
 use Rattle.ir_parse.specs.Modules.{FURTHER_PARAMETERS, GLOBAL_NAMES, item_refusal, module_of}
 use Rattle.ir_parse.proofs.ItemRules.{MORE, there_rule}
 use Rattle.ir_parse.specs.NamedCalls.{before_callee, before_named_callee, in_block, in_blocks, in_definition, in_lines, in_module}
+use Rattle.ir_parse.proofs.Exchanged.{differ, not_both}
 use Rattle.ir_parse.proofs.Leads.{Leads, Opening, Reading, chain_leads, chain_opening, first_leads, leads_after, leads_behind, leads_one, leads_other, many_leads, opening_first, opening_within, reading, star_opening, successive_leads}
 
 abbrev fine : Unit {0} → Result (Unit {0}) TokenFault
@@ -165,11 +166,11 @@ good_is h wanted g e = ap (contains GIVING) (same (number h) (number wanted) e) 
 
 tail_opcode : (h : TokenKind) → nat_eq (number h) (number kinds.TailMark) ≡ true → opcode_by h ≡ opcodes.Tail
 tail_opcode kinds.TailMark e = refl
-tail_opcode h e = absurd cc
+tail_opcode h e = absurd (differ e)
 
 call_opcode : (h : TokenKind) → nat_eq (number h) (number kinds.Call) ≡ true → opcode_by h ≡ opcodes.Call
 call_opcode kinds.Call e = refl
-call_opcode h e = absurd cc
+call_opcode h e = absurd (differ e)
 
 abbrev given : Opcode → Result Opcode TokenFault
 given o = Ok o
@@ -182,7 +183,7 @@ opcode_read wanted o g means (t ∷ []) s = by_test (nat_eq (number t.kind) (num
   where
     by_test : (b : Bool) → nat_eq (number t.kind) (number wanted) ≡ b → cond b (fine tt) (Err (refusal (number t.kind))) ≡ fine tt → cond (among tokens GIVING t) (given (opcode_of t)) (Err (refusal (number t.kind))) ≡ given o
     by_test true e s = ap (λ (b : Bool). cond b (given (opcode_of t)) (Err (refusal (number t.kind)))) (good_is t.kind wanted g e) ∙ ap given (means t.kind e)
-    by_test false e s = absurd cc
+    by_test false e s = absurd (not_both _ _ (sym s))
 opcode_read wanted o g means (t ∷ u ∷ ts) s = absurd s
 
 abbrev behind_name : Tok → Reader Tok (Option WrittenLine)

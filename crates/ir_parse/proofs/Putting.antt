@@ -1,19 +1,36 @@
 -- Items that are put behind those that were read before.
-use Rattle.std.proofs.Common.{◌≡◌, ℕ, zero, suc, ◌-◌, nat_eq, Bool, true, false, cond, Option, List, [], ◌∷◌, length, Result, Ok, Err, refl, sym, ap, ◌∙◌, arith}
+use Rattle.std.proofs.Common.{◌≡◌, ℕ, zero, suc, ◌-◌, nat_eq, Bool, true, false, cond, Option, Some, None, List, [], ◌∷◌, ◌++◌, length, Result, Ok, Err, refl, sym, ap, subst, ◌∙◌, arith}
+use Rattle.std.specs.Prelude.{IfErr, OnOk}
+use Rattle.ir_lex.specs.TokenKinds.{number}
+use Rattle.ir_lex.specs.declared.token_kind.TokenKind.TheVariants as kinds
 use Rattle.ir_lex.specs.Tok.{Tok}
 use Rattle.ir_parse_parts.specs.declared.fault.Fault.{Fault}
 use Rattle.ir_parse_parts.specs.declared.fault.TokenFault.TheVariants.{Limit}
 use Rattle.ir_tree.specs.declared.failure.Failure.{Failure}
 use Rattle.ir_tree.specs.declared.failure.Failure.TheVariants as errors
 use Rattle.ir_parse_parts.specs.Alphabet.{among}
-use Rattle.ir_parse_parts.specs.Readers.{Reader, Fails, Returns, done, fault_at, follow, ◌>>=◌, next_is}
-use Rattle.ir_parse_parts.specs.Classes.{tokens}
+use Rattle.ir_parse_parts.specs.Readers.{Reader, Fails, Returns, done, fault_at, follow, ◌>>=◌, next_is, pick}
+use Rattle.ir_parse_parts.specs.Classes.{tokens, the_at}
+use Rattle.ir_parse_parts.specs.declared.raw.FunctionHeader.{FunctionHeader}
+use Rattle.ir_parse_heads.specs.AttributesAt.{HEAD, head_attribute_at}
+use Rattle.ir_parse_heads.specs.declared.attributes.Attribute.{Attribute}
+use Rattle.ir_parse_heads.specs.FunctionHeadsAt.{head_at}
+use Rattle.ir_parse_heads.specs.declared.function_heads.Role.TheVariants as roles
+use Rattle.ir_parse_bodies.specs.BlocksAt.{definition_at}
+use Rattle.ir_parse_globals.specs.Variables.{NAMES}
+use Rattle.ir_parse_globals.specs.VariablesAt.{variable_line_at}
+use Rattle.ir_parse_parts.specs.declared.places.Before.TheVariants as befores
 use Rattle.ir_parse_parts.specs.declared.places.Before.{Before}
 use Rattle.ir_parse_parts.specs.declared.places.Position.{Position}
 use Rattle.ir_parse_parts.specs.declared.raw.Item.{Item}
-use Rattle.ir_parse.specs.ItemForms.{ParsedItem, at_place, keep}
-use Rattle.ir_parse.specs.ItemFormsAt.{NAMING, naming_at, named_at, named_within_at, beside_at, other_at, piece_at}
+use Rattle.ir_parse_parts.specs.declared.raw.Item.TheVariants as items
+use Rattle.ir_parse_operands.specs.Adding.{pushed_at}
+use Rattle.ir_parse_operands.proofs.Choices.{passes_over, picks}
+use Rattle.ir_parse_operands.proofs.Levels.{gives_as}
+use Rattle.ir_parse.specs.ItemForms.{ParsedItem, at_place, declared, keep}
+use Rattle.ir_parse.specs.ItemFormsAt.{DECLARE, NAMING, attached_before_at, attribute_behind_at, declaration_at, plainly_at, unnamed_at, kept_at, left_out_at, naming_at, named_at, named_within_at, beside_at, other_at, piece_at}
 use Rattle.ir_parse.specs.Putting.{behind_at}
+use Rattle.ir_parse.proofs.Exchanged.{apart}
 
 abbrev kept_to : {S : Type 0} → List Item → Option Item × S → Reader Tok (List Item × S)
 kept_to front x = done (keep front x.0, x.1)
@@ -39,6 +56,108 @@ placed_gives front new names f ts rest b h = behind_placed front names f ts ∙ 
 placed_fails : (front : List Item) (names : ℕ) (f : Reader Tok ParsedItem) (ts : List Tok) (e : Failure Fault) → Fails e (behind_at front f ts) → Fails e (behind_at front (placed names f) ts)
 placed_fails front names f ts errors.NoMemory h = tt
 placed_fails front names f ts (errors.Fault e) h = behind_placed front names f ts ∙ ap (λ (r : Result ((List Item × Before) × List Tok) Fault). follow r (at_names names)) h
+
+-- ---- the same reading with more beside it
+
+-- what was returned, with more beside it
+pub returned_with : {X Y Z : Type 0} (view : X → Y × List Tok) (h : Y → Z) (result : Result X (Failure Fault)) (read : Result (Y × List Tok) Fault) → Returns view result read → Returns (λ x. (h (view x).0, (view x).1)) result (follow read (λ y. done (h y)))
+returned_with {Y = Y} view h (Ok x) read p = ap (λ (r : Result (Y × List Tok) Fault). follow r (λ y. done (h y))) p
+returned_with view h (Err errors.NoMemory) read p = tt
+returned_with {Y = Y} view h (Err (errors.Fault f)) read p = ap (λ (r : Result (Y × List Tok) Fault). follow r (λ y. done (h y))) p
+
+module _ (front : List Item) (ts : List Tok) where
+  kept_behind : (f : Reader Tok Item) → behind_at front (kept_at f) ts ≡ follow (pushed_at front f ts) (λ is. done (is, befores.Item))
+  unfolding behind_at kept_at
+  kept_behind f = by_result (f ts)
+    where
+      by_result : (r : Result (Item × List Tok) Fault) → follow (follow r (λ i. done (Some i, befores.Item))) (kept_to front) ≡ follow (follow r (λ i. done (front ++ i ∷ []))) (λ is. done (is, befores.Item))
+      by_result (Ok x) = refl
+      by_result (Err e) = refl
+
+  left_out_behind : (f : Reader Tok (Unit {0})) → behind_at front (left_out_at f) ts ≡ follow (f ts) (λ _. done (front, befores.Item))
+  unfolding behind_at left_out_at
+  left_out_behind f = by_result (f ts)
+    where
+      by_result : (r : Result (Unit {0} × List Tok) Fault) → follow (follow r (λ _. done (None, befores.Item))) (kept_to front) ≡ follow r (λ _. done (front, befores.Item))
+      by_result (Ok x) = refl
+      by_result (Err e) = refl
+
+  -- an item is added
+  pub kept_returns : (f : Reader Tok Item) (new : List Item) (rest : List Tok) (result : Result (Unit {0}) (Failure Fault)) → Returns (λ _. (new, rest)) result (pushed_at front f ts) → Returns (λ _. ((new, befores.Item), rest)) result (behind_at front (kept_at f) ts)
+  kept_returns f new rest result h = gives_as _ _ _ _ (sym (kept_behind f)) (returned_with (λ _. (new, rest)) (λ (is : List Item). (is, befores.Item)) result (pushed_at front f ts) h)
+
+  -- or dropped
+  pub left_out_returns : (f : Reader Tok (Unit {0})) (rest : List Tok) (result : Result (Unit {0}) (Failure Fault)) → Returns (λ _. (tt, rest)) result (f ts) → Returns (λ _. ((front, befores.Item), rest)) result (behind_at front (left_out_at f) ts)
+  left_out_returns f rest result h = gives_as _ _ _ _ (sym (left_out_behind f)) (returned_with (λ _. (tt, rest)) (λ (u : Unit {0}). (front, befores.Item)) result (f ts) h)
+
+  pub behind_picks : {S : Type 0} (begins : Tok → Bool) (one other : Reader Tok (Option Item × S)) → next_is begins ts ≡ true → behind_at front (pick begins one other) ts ≡ behind_at front one ts
+  unfolding behind_at
+  behind_picks {S} begins one other h = ap (λ (r : Result ((Option Item × S) × List Tok) Fault). follow r (kept_to front)) (picks begins one other ts h)
+
+  pub behind_passes : {S : Type 0} (begins : Tok → Bool) (one other : Reader Tok (Option Item × S)) → next_is begins ts ≡ false → behind_at front (pick begins one other) ts ≡ behind_at front other ts
+  unfolding behind_at
+  behind_passes {S} begins one other h = ap (λ (r : Result ((Option Item × S) × List Tok) Fault). follow r (kept_to front)) (passes_over begins one other ts h)
+
+  -- an attribute behind the head of a declaration, or none
+  pub attribute_behind : (before : Before) (a : Attribute) (rest : List Tok) → before ≡ befores.Declaration → next_is (among tokens HEAD) ts ≡ true → head_attribute_at ts ≡ Ok (a, rest) → behind_at front (plainly_at before) ts ≡ Ok ((front, befores.Declaration), rest)
+  unfolding behind_at attribute_behind_at
+  attribute_behind before a rest b h e =
+      ap (λ (x : Before). behind_at front (plainly_at x) ts) b
+      ∙ behind_picks (among tokens HEAD) attribute_behind_at unnamed_at h
+      ∙ ap (λ (r : Result (Attribute × List Tok) Fault). follow (follow r (λ _. done (None, befores.Declaration))) (kept_to front)) e
+
+  pub no_attribute : (before : Before) → (before ≡ befores.Declaration → next_is (among tokens HEAD) ts ≡ false) → behind_at front (plainly_at before) ts ≡ behind_at front unnamed_at ts
+  no_attribute befores.Item h = refl
+  no_attribute befores.Declaration h = behind_passes (among tokens HEAD) attribute_behind_at unnamed_at (h refl)
+  no_attribute befores.Name h = refl
+
+  -- a declaration
+  pub declaration_read : (room : ℕ) (head : FunctionHeader) (behind_word behind_metadata rest : List Tok) → the_at kinds.Declare ts ≡ Ok (tt, behind_word) → attached_before_at behind_word ≡ Ok (tt, behind_metadata) → head_at roles.Declaration room behind_metadata ≡ Ok (head, rest)
+      → behind_at front (declaration_at room) ts ≡ Ok ((keep front (declared head), befores.Declaration), rest)
+  unfolding behind_at declaration_at
+  declaration_read room head behind_word behind_metadata rest word metadata read =
+      ap (λ (r : Result (Unit {0} × List Tok) Fault). follow (follow r (λ _. attached_before_at >>= λ _. head_at roles.Declaration room >>= λ h. done (declared h, befores.Declaration))) (kept_to front)) word
+      ∙ ap (λ (r : Result (Unit {0} × List Tok) Fault). follow (follow r (λ _. head_at roles.Declaration room >>= λ h. done (declared h, befores.Declaration))) (kept_to front)) metadata
+      ∙ ap (λ (r : Result (FunctionHeader × List Tok) Fault). follow (follow r (λ h. done (declared h, befores.Declaration))) (kept_to front)) read
+
+  pub declaration_comes : (room : ℕ) → next_is (among tokens DECLARE) ts ≡ true → behind_at front (naming_at room) ts ≡ behind_at front (declaration_at room) ts
+  declaration_comes room h =
+      behind_passes (among tokens NAMES) (kept_at variable_line_at) (pick (among tokens DECLARE) (declaration_at room) (kept_at (definition_at room))) (no_variable ts h)
+      ∙ behind_picks (among tokens DECLARE) (declaration_at room) (kept_at (definition_at room)) h
+    where
+      no_variable : (ts : List Tok) → next_is (among tokens DECLARE) ts ≡ true → next_is (among tokens NAMES) ts ≡ false
+      no_variable [] h = refl
+      no_variable (t ∷ ts) h = apart DECLARE NAMES refl (number t.kind) h
+
+  -- a variable or a definition
+  pub defining_comes : (room : ℕ) → next_is (among tokens DECLARE) ts ≡ false → behind_at front (naming_at room) ts ≡ follow (pushed_at front (pick (among tokens NAMES) variable_line_at (definition_at room)) ts) (λ is. done (is, befores.Item))
+  defining_comes room h = by_test (next_is (among tokens NAMES) ts) refl
+    where
+      added : Result (Item × List Tok) Fault → Result ((List Item × Before) × List Tok) Fault
+      added r = follow (follow r (λ i. done (front ++ i ∷ []))) (λ is. done (is, befores.Item))
+
+      by_test : (b : Bool) → next_is (among tokens NAMES) ts ≡ b → behind_at front (naming_at room) ts ≡ added (pick (among tokens NAMES) variable_line_at (definition_at room) ts)
+      by_test true n =
+          behind_picks (among tokens NAMES) (kept_at variable_line_at) (pick (among tokens DECLARE) (declaration_at room) (kept_at (definition_at room))) n
+          ∙ kept_behind variable_line_at
+          ∙ ap added (sym (picks (among tokens NAMES) variable_line_at (definition_at room) ts n))
+      by_test false n =
+          behind_passes (among tokens NAMES) (kept_at variable_line_at) (pick (among tokens DECLARE) (declaration_at room) (kept_at (definition_at room))) n
+          ∙ behind_passes (among tokens DECLARE) (declaration_at room) (kept_at (definition_at room)) h
+          ∙ kept_behind (definition_at room)
+          ∙ ap added (sym (passes_over (among tokens NAMES) variable_line_at (definition_at room) ts n))
+
+-- a lifetime marker isn't kept
+pub declared_dropped : (front : List Item) (head : FunctionHeader) → nat_eq (number head.name.kind) (number kinds.LifetimeMarker) ≡ true → keep front (declared head) ≡ front
+declared_dropped front head e = ap (λ (b : Bool). keep front (cond b None (Some (items.Declaration head)))) e
+
+pub declared_kept : (front : List Item) (head : FunctionHeader) → nat_eq (number head.name.kind) (number kinds.LifetimeMarker) ≡ false → keep front (declared head) ≡ front ++ items.Declaration head ∷ []
+declared_kept front head e = ap (λ (b : Bool). keep front (cond b None (Some (items.Declaration head)))) e
+
+-- what was read is put there, unless memory ran out
+pub put_returns : {B : Type 0} (result : Result (Unit {0}) (Failure Fault)) (new put : List Item) (b : B) (rest : List Tok) (read : Result ((List Item × B) × List Tok) Fault) → OnOk result (new ≡ put) → IfErr result (λ e. e ≡ errors.NoMemory) → read ≡ Ok ((put, b), rest) → Returns (λ (u : Unit {0}). ((new, b), rest)) result read
+put_returns (Ok u) new put b rest read p m e = e ∙ ap (λ (xs : List Item). Ok ((xs, b), rest)) (sym p)
+put_returns (Err d) new put b rest read p m e = subst (λ (f : Failure Fault). Fails f read) (sym m) tt
 
 -- ---- an item that names something, where there is room for a name
 

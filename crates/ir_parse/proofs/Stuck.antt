@@ -1,5 +1,5 @@
 -- Where the grammar reads a list of tokens, and where it stops.
-use Rattle.std.proofs.Common.{◌≡◌, ℕ, zero, suc, ◌-◌, ◌<◌, Bool, true, false, ◌⊎◌, inl, inr, List, [], ◌∷◌, ◌++◌, length, drop, Result, Ok, Err, refl, sym, ap, subst, ◌∙◌, append_assoc, arith}
+use Rattle.std.proofs.Common.{◌≡◌, ℕ, zero, suc, ◌-◌, ◌<◌, ◌≤◌, get_or, Bool, true, false, ◌⊎◌, inl, inr, List, [], ◌∷◌, ◌++◌, length, drop, Result, Ok, Err, refl, sym, ap, subst, ◌∙◌, append_assoc, arith}
 use Rattle.std.proofs.lemmas.List.{append-nil, length-append, length-map, drop-map}
 use Rattle.ir_lex.specs.TokenKinds.{number}
 use Rattle.ir_lex.specs.Tok.{Tok, tok, toks}
@@ -9,6 +9,7 @@ use Rattle.ir_parse_parts.specs.Faults.{Dead, Extends, StopsAt}
 use Rattle.ir_parse_parts.specs.Lawful.{Lawful}
 use Rattle.ir_parse_parts.specs.Readers.{Reader}
 use Rattle.ir_parse_parts.specs.declared.fault.Fault.{Fault}
+use Rattle.ir_parse_parts.specs.declared.fault.TokenFault.{TokenFault}
 use Rattle.ir_parse_parts.specs.declared.fault.TokenFault.TheVariants.{Number}
 use Rattle.ir_parse_parts.proofs.Composed.{cut_is}
 use Rattle.ir_parse_parts.proofs.Whole as whole
@@ -19,6 +20,7 @@ use Rattle.ir_parse.specs.ItemFormsAt.{ITEM, items_at}
 use Rattle.ir_parse.specs.Modules.{FURTHER_PARAMETERS, GLOBAL_NAMES, any_module, item_refusal, last_tokens, module_of, whole_module}
 use Rattle.ir_parse.proofs.ItemRules.{ANY, items_rule}
 use Rattle.ir_parse.specs.Answers.{IsStopped, stopped_kind}
+use Rattle.ir_parse.specs.Kinds.{grammar_fault}
 use Rattle.ir_parse.specs.FirstFault.{IsStuck, IsTold, Stuck, end_kind, line_of}
 use Rattle.ir_tree.specs.declared.fault_kind.FaultKind.{FaultKind}
 use Rattle.ir_parse.specs.declared.fault.ReadFault.{ReadFault}
@@ -185,3 +187,11 @@ not_stuck ts is end line kind h s = by s.rest s.parts s.stuck
     by : (rest : List Tok) → ts ≡ s.front ++ rest → IsStuck s.front rest true → ⊥
     by [] p d = d is (subst (λ (us : List Tok). whole_module us is) (p ∙ append-nil s.front) h)
     by (t ∷ rest) p d = d (rest, is, subst (λ (us : List Tok). whole_module us is) (p ∙ sym (append_assoc s.front (t ∷ []) rest)) h)
+
+-- a reading that stops at the first of these tokens
+pub stopped_at : (rest last : List Token) (d : Token) (whole : Bool) (end : ℕ) (refusal : TokenFault) (kind : FaultKind) → 1 ≤ length rest → rest ≡ last → kind ≡ grammar_fault (tok (get_or rest 0 d)) refusal → ((get_or rest 0 d).line ≡ line_of (toks last) end) × (kind ≡ stopped_kind (toks last) whole refusal)
+stopped_at rest last d whole end refusal kind some same is = subst (λ (ts : List Token). ((get_or rest 0 d).line ≡ line_of (toks ts) end) × (kind ≡ stopped_kind (toks ts) whole refusal)) same (first rest some is)
+  where
+    first : (rest : List Token) → 1 ≤ length rest → kind ≡ grammar_fault (tok (get_or rest 0 d)) refusal → ((get_or rest 0 d).line ≡ line_of (toks rest) end) × (kind ≡ stopped_kind (toks rest) whole refusal)
+    first [] some is = absurd (omega (arith, some))
+    first (t ∷ ts) some is = (refl, is)

@@ -1,22 +1,24 @@
 //! Reads the items of a module one behind another (LangRef, "Module Structure").
 
-ghost use Rattle.std.specs.Prelude.{◌≡◌, ◌∷◌, ◌++◌, [], OnOk, IfErr, None};
+ghost use Rattle.std.specs.Prelude.{◌≡◌, ◌∷◌, ◌++◌, [], OnOk, IfErr, None, true, false};
 ghost use Rattle.ir_lex.specs.TokenKinds.{number};
 ghost use Rattle.ir_parse_parts.specs.Alphabet.{contains, among};
 ghost use Rattle.ir_tree.specs.declared.failure.Failure.TheVariants.{NoMemory};
-ghost use Rattle.ir_parse_parts.specs.Readers.{Returns, next_is};
-ghost use Rattle.ir_parse_heads.specs.AttributesAt.{HEAD, attribute_group_at};
-ghost use Rattle.ir_parse_heads.specs.TargetsAt.{layout_line_at, target_line_at, triple_line_at};
+ghost use Rattle.ir_parse_parts.specs.Readers.{Returns, next_is, pick};
+ghost use Rattle.ir_parse_heads.specs.AttributesAt.{HEAD};
+ghost use Rattle.ir_parse_heads.specs.TargetsAt.{target_line_at};
 ghost use Rattle.ir_parse_parts.specs.Classes.{tokens};
+ghost use Rattle.ir_parse_parts.specs.declared.places.Before.TheVariants as befores;
+ghost use Rattle.ir_parse_operands.specs.Adding.{pushed_at};
 ghost use Rattle.ir_parse_bodies.specs.BlocksAt.{definition_at};
-ghost use Rattle.ir_parse_globals.specs.TypeDefinitionsAt.{type_line_at};
 ghost use Rattle.ir_parse_globals.specs.Variables.{NAMES};
 ghost use Rattle.ir_parse_globals.specs.VariablesAt.{variable_line_at};
 ghost use Rattle.ir_parse.specs.ItemForms.{declared, keep};
-ghost use Rattle.ir_parse.specs.ItemFormsAt.{ITEM, NAMING, beginnings, kept_at, unnamed_at, attribute_behind_at, metadata_there_at, plainly_at, beside_at, attached_before_at, declaration_at, naming_at, named_within_at, there_at, items_at};
+ghost use Rattle.ir_parse.specs.ItemFormsAt.{ITEM, NAMING, beginnings, unnamed_at, metadata_there_at, plainly_at, beside_at, attached_before_at, declaration_at, naming_at, named_within_at, there_at, items_at};
 ghost use Rattle.ir_parse.specs.Putting.{behind_at};
 
 use ir_lex::TokenKind;
+use ir_parse_bodies::definition_into;
 use ir_parse_globals::{
     attribute_group_into, layout_line_into, triple_line_into, type_line_into, variable_line_into,
 };
@@ -30,133 +32,43 @@ use ir_parse_parts::{
 };
 use std::alloc::Global;
 
-/// Reads the layout of the target, and adds it.
-#[tactic(auto, unfolding(crate::specs::Putting::behind_at, crate::specs::ItemFormsAt::kept_at))]
-fn layout_into(
-    alloc: Global,
-    items: &mut Vec<Item>,
-    tokens: &mut Tokens,
-) -> Result<Before, ReaderError>
-    ensures { Returns (λ b. ((items.new.items, b), tokens.new)) result (behind_at items.old.items (kept_at layout_line_at) tokens.old) }
-{
-    layout_line_into(alloc, items, tokens)?;
-    Ok(Before::Item)
-}
-
-/// Reads the triple of the target, and adds it.
-#[tactic(auto, unfolding(crate::specs::Putting::behind_at, crate::specs::ItemFormsAt::kept_at))]
-fn triple_into(
-    alloc: Global,
-    items: &mut Vec<Item>,
-    tokens: &mut Tokens,
-) -> Result<Before, ReaderError>
-    ensures { Returns (λ b. ((items.new.items, b), tokens.new)) result (behind_at items.old.items (kept_at triple_line_at) tokens.old) }
-{
-    triple_line_into(alloc, items, tokens)?;
-    Ok(Before::Item)
-}
-
 /// Reads a line on the target, and adds it: `target triple = "x86_64-pc-linux-gnu"`.
-#[tactic(auto, unfolding(crate::specs::Putting::behind_at, crate::specs::ItemFormsAt::kept_at, ir_parse_heads::specs::TargetsAt::target_line_at))]
-fn target_into(
+#[tactic(auto, unfolding(ir_parse_heads::specs::TargetsAt::target_line_at))]
+fn target_line_into(
     alloc: Global,
     items: &mut Vec<Item>,
     tokens: &mut Tokens,
-) -> Result<Before, ReaderError>
-    ensures { Returns (λ b. ((items.new.items, b), tokens.new)) result (behind_at items.old.items (kept_at target_line_at) tokens.old) }
+) -> Result<(), ReaderError>
+    ensures { Returns (λ _. (items.new.items, tokens.new)) result (pushed_at items.old.items target_line_at tokens.old) }
 {
     expect(TokenKind::Target, tokens)?;
     if tokens.comes(TokenKind::Datalayout) {
-        layout_into(alloc, items, tokens)
+        layout_line_into(alloc, items, tokens)
     } else {
-        triple_into(alloc, items, tokens)
+        triple_line_into(alloc, items, tokens)
     }
-}
-
-/// Reads the definition of a type, and adds it.
-#[tactic(auto, unfolding(crate::specs::Putting::behind_at, crate::specs::ItemFormsAt::kept_at))]
-fn type_into(
-    alloc: Global,
-    items: &mut Vec<Item>,
-    tokens: &mut Tokens,
-) -> Result<Before, ReaderError>
-    ensures { Returns (λ b. ((items.new.items, b), tokens.new)) result (behind_at items.old.items (kept_at type_line_at) tokens.old) }
-{
-    type_line_into(alloc, items, tokens)?;
-    Ok(Before::Item)
-}
-
-/// Reads a group of attributes, and adds it.
-#[tactic(auto, unfolding(crate::specs::Putting::behind_at, crate::specs::ItemFormsAt::kept_at))]
-fn group_into(
-    alloc: Global,
-    items: &mut Vec<Item>,
-    tokens: &mut Tokens,
-) -> Result<Before, ReaderError>
-    ensures { Returns (λ b. ((items.new.items, b), tokens.new)) result (behind_at items.old.items (kept_at attribute_group_at) tokens.old) }
-{
-    attribute_group_into(alloc, items, tokens)?;
-    Ok(Before::Item)
-}
-
-/// Reads a variable, and adds it.
-#[tactic(auto, unfolding(crate::specs::Putting::behind_at, crate::specs::ItemFormsAt::kept_at))]
-fn variable_into(
-    alloc: Global,
-    items: &mut Vec<Item>,
-    tokens: &mut Tokens,
-) -> Result<Before, ReaderError>
-    ensures { Returns (λ b. ((items.new.items, b), tokens.new)) result (behind_at items.old.items (kept_at variable_line_at) tokens.old) }
-{
-    variable_line_into(alloc, items, tokens)?;
-    Ok(Before::Item)
-}
-
-/// Reads the definition of a function, and adds it.
-#[tactic(auto, unfolding(crate::specs::Putting::behind_at, crate::specs::ItemFormsAt::kept_at))]
-fn definition_into(
-    alloc: Global,
-    room: usize,
-    items: &mut Vec<Item>,
-    tokens: &mut Tokens,
-) -> Result<Before, ReaderError>
-    ensures { Returns (λ b. ((items.new.items, b), tokens.new)) result (behind_at items.old.items (kept_at (definition_at room)) tokens.old) }
-{
-    ir_parse_bodies::definition_into(alloc, room, items, tokens)?;
-    Ok(Before::Item)
 }
 
 /// Reads an item that defines and declares no global name, and is no metadata; it is added, where it
 /// is kept.
-#[tactic(auto, unfolding(crate::specs::Putting::behind_at, crate::specs::ItemFormsAt::unnamed_at, crate::specs::ItemFormsAt::left_out_at))]
-fn unnamed_at(
+fn unnamed_into(
     alloc: Global,
     items: &mut Vec<Item>,
     tokens: &mut Tokens,
-) -> Result<Before, ReaderError>
-    ensures { Returns (λ b. ((items.new.items, b), tokens.new)) result (behind_at items.old.items unnamed_at tokens.old) }
+) -> Result<(), ReaderError>
+    ensures { Returns (λ _. ((items.new.items, befores.Item), tokens.new)) result (behind_at items.old.items unnamed_at tokens.old) }
 {
     if tokens.comes(TokenKind::SourceFilename) {
-        source_line_at(tokens)?;
-        Ok(Before::Item)
+        source_line_at(tokens)
     } else if tokens.comes(TokenKind::Target) {
-        target_into(alloc, items, tokens)
+        target_line_into(alloc, items, tokens)
     } else if tokens.comes(TokenKind::ComdatName) {
-        comdat_line_at(tokens)?;
-        Ok(Before::Item)
+        comdat_line_at(tokens)
     } else if tokens.comes(TokenKind::Local) {
-        type_into(alloc, items, tokens)
+        type_line_into(alloc, items, tokens)
     } else {
-        group_into(alloc, items, tokens)
+        attribute_group_into(alloc, items, tokens)
     }
-}
-
-#[tactic(auto, unfolding(crate::specs::ItemFormsAt::attribute_behind_at))]
-fn attribute_behind_at(alloc: Global, tokens: &mut Tokens) -> Result<Before, ReaderError>
-    ensures { Returns (λ b. ((None, b), tokens.new)) result (attribute_behind_at tokens.old) }
-{
-    head_attribute_at(alloc, tokens)?;
-    Ok(Before::Declaration)
 }
 
 /// Whether a token of this kind begins an attribute behind the head of a declaration.
@@ -180,7 +92,7 @@ fn comes_head_attribute(rest: &Tokens) -> bool
 }
 
 /// Reads metadata, by what stands before it.
-#[tactic(auto, unfolding(crate::specs::ItemFormsAt::left_out_at, crate::specs::ItemFormsAt::placed_at))]
+#[tactic(auto, unfolding(crate::specs::ItemFormsAt::left_out_at))]
 fn metadata_there_at(
     alloc: Global,
     before: Before,
@@ -193,14 +105,25 @@ fn metadata_there_at(
             metadata_line_at(alloc, tokens)?;
             Ok(Before::Item)
         }
-        Before::Declaration => Ok(metadata_behind_at(alloc, tokens)?),
-        Before::Name => Ok(node_yet_at(alloc, tokens)?),
+        Before::Declaration => metadata_behind_at(alloc, tokens),
+        Before::Name => node_yet_at(alloc, tokens),
+    }
+}
+
+/// Whether an attribute comes behind the head of a declaration.
+fn comes_attribute(before: Before, rest: &Tokens) -> bool
+    ensures comes { result ≡ true → (before ≡ befores.Declaration) × (next_is (among tokens HEAD) rest.now ≡ true) }
+    ensures other { result ≡ false → before ≡ befores.Declaration → next_is (among tokens HEAD) rest.now ≡ false }
+{
+    match before {
+        Before::Declaration => comes_head_attribute(rest),
+        Before::Item | Before::Name => false,
     }
 }
 
 /// Reads an item that defines and declares no global name and is no metadata, or an attribute behind
 /// the head of a declaration.
-#[tactic(auto, unfolding(crate::specs::Putting::behind_at))]
+#[tactic(auto, unfolding(crate::specs::Putting::behind_at, crate::specs::ItemFormsAt::attribute_behind_at))]
 fn plainly_at(
     alloc: Global,
     before: Before,
@@ -209,21 +132,16 @@ fn plainly_at(
 ) -> Result<Before, ReaderError>
     ensures { Returns (λ b. ((items.new.items, b), tokens.new)) result (behind_at items.old.items (plainly_at before) tokens.old) }
 {
-    match before {
-        Before::Item => unnamed_at(alloc, items, tokens),
-        Before::Declaration => {
-            if comes_head_attribute(tokens) {
-                Ok(attribute_behind_at(alloc, tokens)?)
-            } else {
-                unnamed_at(alloc, items, tokens)
-            }
-        }
-        Before::Name => unnamed_at(alloc, items, tokens),
+    if comes_attribute(before, tokens) {
+        head_attribute_at(alloc, tokens)?;
+        Ok(Before::Declaration)
+    } else {
+        unnamed_into(alloc, items, tokens)?;
+        Ok(Before::Item)
     }
 }
 
 /// Reads what defines and declares no global name, by what stands before it.
-#[tactic(auto, unfolding(crate::specs::Putting::behind_at, crate::specs::ItemFormsAt::beside_at))]
 fn beside_at(
     alloc: Global,
     before: Before,
@@ -233,7 +151,7 @@ fn beside_at(
     ensures { Returns (λ b. ((items.new.items, b), tokens.new)) result (behind_at items.old.items (beside_at before) tokens.old) }
 {
     if tokens.comes_meta() {
-        Ok(metadata_there_at(alloc, before, tokens)?)
+        metadata_there_at(alloc, before, tokens)
     } else {
         plainly_at(alloc, before, items, tokens)
     }
@@ -265,21 +183,21 @@ fn push_declared(
     }
 }
 
-/// Reads a declaration up to the end of its parameters: `declare !dbg !5 i32 @f(ptr)`.
+/// Reads a declaration up to the end of its parameters, `declare !dbg !5 i32 @f(ptr)`, and adds it,
+/// where it is kept.
 #[tactic(auto, unfolding(crate::specs::Putting::behind_at, crate::specs::ItemFormsAt::declaration_at))]
-fn declaration_at(
+fn declaration_into(
     alloc: Global,
     room: usize,
     items: &mut Vec<Item>,
     tokens: &mut Tokens,
-) -> Result<Before, ReaderError>
-    ensures { Returns (λ b. ((items.new.items, b), tokens.new)) result (behind_at items.old.items (declaration_at room) tokens.old) }
+) -> Result<(), ReaderError>
+    ensures { Returns (λ _. ((items.new.items, befores.Declaration), tokens.new)) result (behind_at items.old.items (declaration_at room) tokens.old) }
 {
     expect(TokenKind::Declare, tokens)?;
     attached_before_at(alloc, tokens)?;
     let head = head_at(alloc, Role::Declaration, room, tokens)?;
-    push_declared(items, head)?;
-    Ok(Before::Declaration)
+    push_declared(items, head)
 }
 
 /// Whether a token of this kind names a variable.
@@ -319,8 +237,23 @@ fn comes_naming(rest: &Tokens) -> bool
     }
 }
 
+/// Reads a variable or the definition of a function, and adds it.
+fn defining_into(
+    alloc: Global,
+    room: usize,
+    items: &mut Vec<Item>,
+    rest: &mut Tokens,
+) -> Result<(), ReaderError>
+    ensures { Returns (λ _. (items.new.items, rest.new)) result (pushed_at items.old.items (pick (among tokens NAMES) variable_line_at (definition_at room)) rest.old) }
+{
+    if comes_variable(rest) {
+        variable_line_into(alloc, items, rest)
+    } else {
+        definition_into(alloc, room, items, rest)
+    }
+}
+
 /// Reads an item that defines or declares a global name.
-#[tactic(auto, unfolding(crate::specs::Putting::behind_at))]
 fn naming_at(
     alloc: Global,
     room: usize,
@@ -329,12 +262,12 @@ fn naming_at(
 ) -> Result<Before, ReaderError>
     ensures { Returns (λ b. ((items.new.items, b), tokens.new)) result (behind_at items.old.items (naming_at room) tokens.old) }
 {
-    if comes_variable(tokens) {
-        variable_into(alloc, items, tokens)
-    } else if tokens.comes(TokenKind::Declare) {
-        declaration_at(alloc, room, items, tokens)
+    if tokens.comes(TokenKind::Declare) {
+        declaration_into(alloc, room, items, tokens)?;
+        Ok(Before::Declaration)
     } else {
-        definition_into(alloc, room, items, tokens)
+        defining_into(alloc, room, items, tokens)?;
+        Ok(Before::Item)
     }
 }
 
