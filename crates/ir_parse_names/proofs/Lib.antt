@@ -4,6 +4,9 @@ mod Definitions
 mod SameTypes
 mod Sizes
 pub mod Each
+pub mod Failing
+mod Firsts
+mod KnownTypes
 mod Expanding
 mod Powers
 mod Trimming

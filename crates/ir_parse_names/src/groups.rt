@@ -1,7 +1,7 @@
 //! Attribute groups, and what they say of a definition (LangRef, "Attribute Groups").
 ghost use Rattle.std.specs.Prelude.{◌≡◌, Ok, drop};
 ghost use Rattle.std.specs.Cow.{cow_slice_items};
-ghost use Rattle.ir_parse_names.specs.Groups.{group_key, no_groups, said, with_group, any_of, is_noinline, is_optnone};
+ghost use Rattle.ir_parse_names.specs.Groups.{group_key, no_groups, said, with_group, with_groups, any_of, is_noinline, is_optnone};
 ghost use Rattle.ir_parse_names.specs.Groups as groups;
 ghost use Rattle.ir_parse_names.specs.Resolving.{ResolvesTo};
 
@@ -64,6 +64,16 @@ fn with_group<'t>(found: &mut Groups<'t>, item: &'t Item) -> Result<(), ResolveE
     }
 }
 
+/// The groups that stand among these items, beside those that were found before.
+fn add_groups<'t>(found: &mut Groups<'t>, items: &'t [Item]) -> Result<(), ResolveError>
+    ensures { ResolvesTo (λ _. found.new) result (Ok (with_groups found.old items.now)) }
+{
+    'each: for item in items {
+        with_group(found, item)?;
+    }
+    Ok(())
+}
+
 /// The groups of a module. A group that stands twice says what both say.
 pub fn groups_of<'t>(alloc: Global, items: &'t [Item]) -> Result<Groups<'t>, ResolveError>
     ensures { ResolvesTo (λ g. g) result (Ok (groups.groups_of items.now)) }
@@ -72,9 +82,7 @@ pub fn groups_of<'t>(alloc: Global, items: &'t [Item]) -> Result<Groups<'t>, Res
         noinline: NameSet::new(alloc),
         optnone: NameSet::new(alloc),
     };
-    'each: for item in items {
-        with_group(&mut found, item)?;
-    }
+    add_groups(&mut found, items)?;
     Ok(found)
 }
 

@@ -1,7 +1,14 @@
-use Rattle.std.proofs.Common.{◌≡◌, refl, sym, ◌∙◌, ◌-◌, arith}
+use Rattle.std.proofs.Common.{◌≡◌, List, Err, refl, sym, ap, subst, ◌∙◌, ◌-◌, arith}
+use Rattle.std.proofs.lemmas.Result.{err_from_is_err_and}
+use Rattle.ir_tree.specs.Forms.{Form, forms_of}
+use Rattle.ir_tree.specs.Layout.{AreLaidOut}
+use Rattle.ir_tree.specs.declared.failure.Failure.{Failure}
+use Rattle.ir_parse_names.specs.declared.fault.Fault.{Fault}
+use Rattle.ir_parse_names.specs.Resolving.{each}
 use Rattle.ir_parse_names.specs.Types.{expand}
-use Rattle.ir_parse_parts.specs.Shapes.{int, pointer, array, structure, named, parts_of}
-use Rattle.ir_parse_names.proofs.Each.{goes_on}
+use Rattle.ir_parse_parts.specs.Shapes.{int, pointer, array, structure, named, parts_of, list_of_parts}
+use Rattle.ir_parse_names.proofs.Each.{all_made, goes_on, none_made, one_fails}
+use Rattle.ir_parse_names.proofs.Failing.{fails_too}
 use Rattle.ir_parse_names.proofs.Expanding.{opened_step, structure_step, array_step}
 use Rattle.ir_parse_names.proofs.Sizes.{laid_push}
 use Rattle.ir_parse_names.proofs.expand.+expansion.Goals as goal
@@ -41,3 +48,20 @@ pub expand-returns-in-Named-clause-given : goal.expand-returns-in-Named-clause-g
 expand-returns-in-Named-clause-given t c =
     let shape : c.in_ok-head.head.now ≡ named c.in-Named.name = rw (c.node.ensures, c.in-Named.is) refl in
     rw (c.unknown.ensures, c.line.ensures) (opened_step c.args.nesting (c.args.nesting - 1) c.args.types.now c.args.line c.args.shape.now c.in_ok-head.head.now (omega (arith, c.if-nesting-eq0.false)) c.in_ok-head.ensures (named c.in-Named.name) shape)
+
+pub expand_all-each-init : goal.expand_all-each-init
+expand_all-each-init t c =
+    record {
+      rest = none_made (expand c.args.nesting c.args.types.now c.args.line) c.args.shapes.now c.new-out.result.items c.new-out.ensures.items ∙ ap (each (expand c.args.nesting c.args.types.now c.args.line)) (sym (list_of_parts c.args.shapes.now));
+      laid = subst (λ (fs : List Form). AreLaidOut (forms_of fs)) (sym c.new-out.ensures.items) tt;
+    }
+
+pub expand_all-returns-clause-given : goal.expand_all-returns-clause-given
+expand_all-returns-clause-given t c = all_made (expand c.args.nesting c.args.types.now c.args.line) c.args.shapes.now c.each.shape-index c.each.out.items _ c.each-test.false c.each.invariant.rest
+
+pub expand_all-returns-in_err-made-clause-given : goal.expand_all-returns-in_err-made-clause-given
+expand_all-returns-in_err-made-clause-given t c =
+    let e : Failure Fault = c.in_err-made.field-0.0 in
+    let p = err_from_is_err_and c.from_residual.result c.from_residual.ensures.1 in
+    fails_too {V = Form} (λ f. f) _ c.from_residual.result e (expand c.args.nesting c.args.types.now c.args.line c.shape-item.result) _ (p.1 ∙ ap (λ (x : Failure Fault). Err x) p.2) c.in_err-made.ensures.given
+    (λ d h. one_fails (expand c.args.nesting c.args.types.now c.args.line) c.args.shapes.now c.each.shape-index c.each.out.items c.shape-item.result d _ c.each-test.true c.shape-item.is h c.each.invariant.rest)
