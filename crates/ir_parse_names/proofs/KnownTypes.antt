@@ -1,5 +1,5 @@
 -- Whether a type name is defined, as it is looked up.
-use Rattle.std.proofs.Common.{◌≡◌, ℕ, suc, Option, Some, None, Bool, List, Result, Ok, is_some, option_map, refl, sym, ap, ◌∙◌}
+use Rattle.std.proofs.Common.{◌≡◌, ℕ, suc, Option, Some, None, Result, Ok, is_some, option_map, refl, sym, ap, ◌∙◌}
 use Rattle.ir_lex.specs.Tok.{Tok}
 use Rattle.ir_parse_parts.specs.Shapes.{Written, named}
 use Rattle.ir_parse_names.specs.declared.fault.Fault.{Fault}

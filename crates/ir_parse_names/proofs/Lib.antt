@@ -6,6 +6,7 @@ mod Sizes
 pub mod Each
 pub mod Failing
 mod Firsts
+mod Parts
 mod KnownTypes
 mod Expanding
 mod Powers

@@ -7,9 +7,9 @@ ghost use Rattle.ir_parse_names.specs.Resolving.{ResolvesTo};
 
 use crate::fault::{Fault, NameFault, ResolveError};
 use crate::key::number_of;
+use crate::name_set::NameSet;
 use crate::number::is_numeral;
 use crate::symbol::trimmed;
-use indexmap::IndexSet;
 use ir_parse_parts::Name;
 use std::alloc::{AllocError, Global};
 use std::borrow::CowSlice;
@@ -18,18 +18,17 @@ use std::marker::Model;
 /// The globals that are defined or declared so far, in the order of the text, and the counter.
 #[derive(Drop)]
 pub struct Globals<'t> {
-    set: IndexSet<CowSlice<'t, u8, Global>>,
+    names: NameSet<'t>,
     counter: u64,
 }
 
 impl<'t> Model for Globals<'t> {
-    ghost use Rattle.std.specs.Prelude.{map, ◌≤◌, ◌^◌};
-    ghost use Rattle.std.specs.Cow.{cow_slice_items};
+    ghost use Rattle.std.specs.Prelude.{◌≤◌, ◌^◌};
     ghost use Rattle.ir_parse_names.specs.Globals as globals;
 
     ghost Value = { globals.Globals };
 
-    ghost view = { λ g. record { names = map cow_slice_items g.set.keys; counter = g.counter } };
+    ghost view = { λ g. record { names = g.names; counter = g.counter } };
 
     ghost invariant = { λ g. g.counter ≤ 2 ^ 32 };
 }
@@ -65,15 +64,9 @@ impl<'t> Globals<'t> {
         ensures { result ≡ no_globals }
     {
         Globals {
-            set: IndexSet::new(alloc),
+            names: NameSet::new(alloc),
             counter: 0,
         }
-    }
-
-    fn has_name(&self, wanted: &CowSlice<'t, u8, Global>) -> bool
-        ensures { result ≡ has_name self.now.names (cow_slice_items wanted.now) }
-    {
-        self.set.contains(wanted)
     }
 
     /// Whether a name is a number below the counter.
@@ -96,7 +89,7 @@ impl<'t> Globals<'t> {
         ensures { ResolvesTo (λ _. self.new) result (Ok (record { names = self.old.names ++ cow_slice_items wanted.entry ∷ []; counter = counted_by self.old.counter number })) }
     {
         let counter = counted_by(self.counter, number);
-        self.set.insert(wanted)?;
+        self.names.push(wanted)?;
         self.counter = counter;
         Ok(())
     }
@@ -107,7 +100,7 @@ impl<'t> Globals<'t> {
     {
         let wanted = name_of(alloc, name)?;
         let number = number_of(name);
-        if self.is_low(number) || self.has_name(&wanted) {
+        if self.is_low(number) || self.names.contains(&wanted) {
             return Err(ResolveError::Fault(Fault {
                 line: name.line(),
                 kind: NameFault::Twice,

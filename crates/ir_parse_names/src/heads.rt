@@ -181,22 +181,15 @@ fn path_from<'t>(
     Ok(path)
 }
 
-/// Adds the places of a path, the last one first.
-fn add_reversed(order: &mut Vec<usize>, path: &[usize]) -> Result<(), AllocError> {
-    'each: for place in path.iter().rev() {
-        order.push(*place)?;
-    }
-    Ok(())
-}
-
 /// All places, each behind that of the name that it stands for. Only the time that is taken rests on
 /// the order.
 fn order_of<'t>(alloc: Global, names: &TypeNames<'t>) -> Result<Vec<usize>, AllocError> {
     let mut seen = vec![in alloc; false; names.len()]?;
     let mut order = Vec::new(alloc);
     'each: for place in 0..names.len() {
-        let path = path_from(alloc, names, &mut seen, place)?;
-        add_reversed(&mut order, &path)?;
+        let mut path = path_from(alloc, names, &mut seen, place)?;
+        path.reverse();
+        order.append(&mut path)?;
     }
     Ok(order)
 }

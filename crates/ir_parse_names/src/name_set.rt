@@ -44,7 +44,7 @@ impl<'t> NameSet<'t> {
     }
 
     /// One more name, which isn't there.
-    fn push(&mut self, wanted: CowSlice<'t, u8, Global>) -> Result<(), ResolveError>
+    pub(crate) fn push(&mut self, wanted: CowSlice<'t, u8, Global>) -> Result<(), ResolveError>
         requires { has_name self.old (cow_slice_items wanted) ≡ false }
         ensures { ResolvesTo (λ _. self.new) result (Ok (self.old ++ cow_slice_items wanted.entry ∷ [])) }
     {

@@ -1,4 +1,4 @@
-use Rattle.std.proofs.Common.{◌≡◌, ◌≤◌, ◌<◌, ◌^◌, ◌⊎◌, inr, ap, sym, subst, arith, ◌∙◌}
+use Rattle.std.proofs.Common.{inr, ap, sym, subst, arith, ◌∙◌}
 use Rattle.ir_parse_names.specs.Keys.{written}
 use Rattle.ir_parse_names.specs.Locals.{LocalTable, MayFollow, stands}
 use Rattle.ir_parse_names.specs.LocalsViews.{definitions}
