@@ -1,5 +1,5 @@
 -- Variables and their initialisers with each name resolved.
-use Rattle.std.specs.Prelude.{ℕ, if◌then◌else◌, Option, None, Some, Result, Ok}
+use Rattle.std.specs.Prelude.{ℕ, if◌then◌else◌, List, Option, None, Some, Result, Ok}
 use Rattle.ir_lex.specs.Quotes.{content}
 use Rattle.ir_lex.specs.Tok.{Tok}
 use Rattle.ir_parse_parts.specs.Literals.{literal}
