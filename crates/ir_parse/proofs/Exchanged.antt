@@ -205,11 +205,23 @@ angled_behind (t ∷ []) v mid = refl
 angled_behind (t ∷ u ∷ one) v mid = angled_behind (u ∷ one) v mid
 
 -- but for a number, what stands before is all one
+stands_alike : (h : TokenKind) → nat_eq (number h) (number kinds.Number) ≡ false → (n : ℕ) → contains (stands_for true h) n ≡ true → contains (stands_for false h) n ≡ true
+stands_alike kinds.Number z n i = absurd (differ (sym z))
+stands_alike h z n i = i
+
+not_told_alike : (h : TokenKind) (S G : Tok → Type 0) (P : Type 0) → nat_eq (number h) (number kinds.Number) ≡ false → NotTold false h S G P → NotTold true h S G P
+not_told_alike kinds.Number S G P z n = absurd (differ (sym z))
+not_told_alike h S G P z n = n
+
+told_alike : (h : TokenKind) (S G : Tok → Type 0) → nat_eq (number h) (number kinds.Number) ≡ false → IsTold false h S G → IsTold true h S G
+told_alike kinds.Number S G z n = absurd (differ (sym z))
+told_alike h S G z n = n
+
 pub same_at : {A : Type 0} (words : Bool) (place : Place) (wide : Form Tok A) (f : Reader Tok A) (front : List Tok) (h : TokenKind) (o : Result A TokenFault) → nat_eq (number h) (number kinds.Number) ≡ false → OutcomeAt words place wide f false front h o → OutcomeAt words place wide f true front h o
-same_at words place wide f front kinds.Number o z p = absurd cc
-same_at words place wide f front h (Ok a) z p = p
-same_at words place wide f front h (Err Syntax) z p = p
-same_at words place wide f front h (Err Profile) z p = p
+same_at words place wide f front h (Ok a) z (inl stays) = inl (λ u i. stays u (stands_alike h z (number u.kind) i))
+same_at words place wide f front h (Ok a) z (inr goes) = inr goes
+same_at words place wide f front h (Err Syntax) z p = not_told_alike h (Stuck f front) (Goes wide front) (place front tt) z p
+same_at words place wide f front h (Err Profile) z p = told_alike h (Stuck f front) (Goes wide front) z p
 same_at words place wide f front h (Err Number) z p = p
 same_at words place wide f front h (Err Limit) z p = p
 

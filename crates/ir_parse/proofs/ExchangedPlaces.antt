@@ -24,39 +24,46 @@ use Rattle.ir_parse.proofs.Told.{REFUSED_SOMEWHERE}
 
 -- ---- what is said of each class
 
+only_type : (P : TokenKind → Type 0) → P kinds.RefusedType → (h : TokenKind) → contains TYPE (number h) ≡ true → P h
+only_type P p kinds.RefusedType e = p
+only_type P p h e = absurd (differ e)
+
+only_target : (P : TokenKind → Type 0) → P kinds.Target → (h : TokenKind) → contains TARGET (number h) ≡ true → P h
+only_target P p kinds.Target e = p
+only_target P p h e = absurd (differ e)
+
+only_integer : (P : TokenKind → Type 0) → P kinds.RegisterInteger → (h : TokenKind) → contains INTEGER (number h) ≡ true → P h
+only_integer P p kinds.RegisterInteger e = p
+only_integer P p h e = absurd (differ e)
+
+only_numbered : (P : TokenKind → Type 0) → P kinds.NumberedGlobal → P kinds.NumberedDefinition → (h : TokenKind) → contains NUMBERED (number h) ≡ true → P h
+only_numbered P p q kinds.NumberedGlobal e = p
+only_numbered P p q kinds.NumberedDefinition e = q
+only_numbered P p q h e = absurd (differ e)
+
 type_told : (b : Bool) (h : TokenKind) (S G : Tok → Type 0) → contains TYPE (number h) ≡ true → IsTold b h S G → (u : Tok) × (among tokens REG u ≡ true) × G u
-type_told b kinds.RefusedType S G e n = n
-type_told b h S G e n = absurd (differ e)
+type_told b h S G e n = only_type (λ (h : TokenKind). IsTold b h S G → (u : Tok) × (among tokens REG u ≡ true) × G u) (λ n. n) h e n
 
 target_told : (b : Bool) (h : TokenKind) (S G : Tok → Type 0) → contains TARGET (number h) ≡ true → IsTold b h S G → ((u : Tok) × (among tokens REG u ≡ true) × G u) × ((w : Tok) → among tokens WORD w ≡ true → S w)
-target_told b kinds.Target S G e n = n
-target_told b h S G e n = absurd (differ e)
+target_told b h S G e n = only_target (λ (h : TokenKind). IsTold b h S G → ((u : Tok) × (among tokens REG u ≡ true) × G u) × ((w : Tok) → among tokens WORD w ≡ true → S w)) (λ n. n) h e n
 
 integer_told : (b : Bool) (h : TokenKind) (S G : Tok → Type 0) → contains INTEGER (number h) ≡ true → IsTold b h S G → (u : Tok) → among tokens MEMORY u ≡ true → IsReal u → G u
-integer_told b kinds.RegisterInteger S G e n = n
-integer_told b h S G e n = absurd (differ e)
+integer_told b h S G e n = only_integer (λ (h : TokenKind). IsTold b h S G → (u : Tok) → among tokens MEMORY u ≡ true → IsReal u → G u) (λ n. n) h e n
 
 name_told : (b : Bool) (h : TokenKind) (S G : Tok → Type 0) → contains NUMBERED (number h) ≡ true → IsTold b h S G → (u : Tok) × (among tokens GLOBAL u ≡ true) × G u
-name_told b kinds.NumberedGlobal S G e n = n
-name_told b kinds.NumberedDefinition S G e n = n
-name_told b h S G e n = absurd (differ e)
+name_told b h S G e n = only_numbered (λ (h : TokenKind). IsTold b h S G → (u : Tok) × (among tokens GLOBAL u ≡ true) × G u) (λ n. n) (λ n. n) h e n
 
 type_not : (b : Bool) (h : TokenKind) (S G : Tok → Type 0) (P : Type 0) → contains TYPE (number h) ≡ true → NotTold b h S G P → (u : Tok) → among tokens REG u ≡ true → S u
-type_not b kinds.RefusedType S G P e n = n
-type_not b h S G P e n = absurd (differ e)
+type_not b h S G P e n = only_type (λ (h : TokenKind). NotTold b h S G P → (u : Tok) → among tokens REG u ≡ true → S u) (λ n. n) h e n
 
 target_not : (b : Bool) (h : TokenKind) (S G : Tok → Type 0) (P : Type 0) → contains TARGET (number h) ≡ true → NotTold b h S G P → ((u : Tok) → among tokens REG u ≡ true → S u) ⊎ ((w : Tok) × (among tokens WORD w ≡ true) × G w)
-target_not b kinds.Target S G P e n = n
-target_not b h S G P e n = absurd (differ e)
+target_not b h S G P e n = only_target (λ (h : TokenKind). NotTold b h S G P → ((u : Tok) → among tokens REG u ≡ true → S u) ⊎ ((w : Tok) × (among tokens WORD w ≡ true) × G w)) (λ n. n) h e n
 
 integer_not : (b : Bool) (h : TokenKind) (S G : Tok → Type 0) (P : Type 0) → contains INTEGER (number h) ≡ true → NotTold b h S G P → (u : Tok) × (among tokens MEMORY u ≡ true) × IsReal u × S u
-integer_not b kinds.RegisterInteger S G P e n = n
-integer_not b h S G P e n = absurd (differ e)
+integer_not b h S G P e n = only_integer (λ (h : TokenKind). NotTold b h S G P → (u : Tok) × (among tokens MEMORY u ≡ true) × IsReal u × S u) (λ n. n) h e n
 
 name_not : (b : Bool) (h : TokenKind) (S G : Tok → Type 0) (P : Type 0) → contains NUMBERED (number h) ≡ true → NotTold b h S G P → (u : Tok) → among tokens GLOBAL u ≡ true → S u
-name_not b kinds.NumberedGlobal S G P e n = n
-name_not b kinds.NumberedDefinition S G P e n = n
-name_not b h S G P e n = absurd (differ e)
+name_not b h S G P e n = only_numbered (λ (h : TokenKind). NotTold b h S G P → (u : Tok) → among tokens GLOBAL u ≡ true → S u) (λ n. n) (λ n. n) h e n
 
 marker_not : (b : Bool) (h : TokenKind) (S G : Tok → Type 0) (P : Type 0) → contains MARKER (number h) ≡ true → NotTold b h S G P → P
 marker_not b kinds.LifetimeMarker S G P e n = n

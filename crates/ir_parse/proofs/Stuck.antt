@@ -195,3 +195,11 @@ stopped_at rest last d whole end refusal kind some same is = subst (λ (ts : Lis
     first : (rest : List Token) → 1 ≤ length rest → kind ≡ grammar_fault (tok (get_or rest 0 d)) refusal → ((get_or rest 0 d).line ≡ line_of (toks rest) end) × (kind ≡ stopped_kind (toks rest) whole refusal)
     first [] some is = absurd (omega (arith, some))
     first (t ∷ ts) some is = (refl, is)
+
+-- or behind the last
+pub stopped_behind : (rest last : List Token) (whole : Bool) (end line : ℕ) (refusal : TokenFault) (kind : FaultKind) → length rest < 1 → rest ≡ last → line ≡ end → kind ≡ end_kind whole → (line ≡ line_of (toks last) end) × (kind ≡ stopped_kind (toks last) whole refusal)
+stopped_behind rest last whole end line refusal kind none same at is = subst (λ (ts : List Token). (line ≡ line_of (toks ts) end) × (kind ≡ stopped_kind (toks ts) whole refusal)) same (behind rest none)
+  where
+    behind : (rest : List Token) → length rest < 1 → (line ≡ line_of (toks rest) end) × (kind ≡ stopped_kind (toks rest) whole refusal)
+    behind [] none = (at, is)
+    behind (t ∷ ts) none = absurd (omega (arith, none))

@@ -1,27 +1,19 @@
 //! The lines that the faults of a module's global values are told by.
-ghost use Rattle.std.specs.Prelude.{◌≡◌, ◌++◌, IfOk, OnOk, flat_map, map};
+ghost use Rattle.std.specs.Prelude.{◌≡◌, ◌++◌, IfOk, OnOk, flat_map};
 ghost use Rattle.ir_parse.specs.Lines.{block_lines, item_lines};
 ghost use Rattle.ir_parse.specs.Lines as definitions;
 
-use ir_parse_parts::{Block, Item, WrittenLine};
+use ir_parse_parts::{Block, Item};
 use ir_tree::Rows;
 use std::alloc::{AllocError, Global};
-
-/// The lines of these at the end of those.
-fn push_lines(lines: &mut Rows<u32>, written: &[WrittenLine]) -> Result<(), AllocError>
-    ensures { OnOk result (lines.new ≡ lines.old ++ map (λ l. l.line) written.now) }
-{
-    'each: for line in written {
-        lines.push(line.line)?;
-    }
-    Ok(())
-}
 
 /// The lines of a block's phis, instructions and terminator, at the end of these.
 fn push_block(block: &Block, lines: &mut Rows<u32>) -> Result<(), AllocError>
     ensures { OnOk result (lines.new ≡ lines.old ++ block_lines block.now) }
 {
-    push_lines(lines, block.lines.as_slice())?;
+    'each: for line in block.lines.as_slice() {
+        lines.push(line.line)?;
+    }
     lines.push(block.end_line)?;
     Ok(())
 }

@@ -1,0 +1,7 @@
+use Rattle.std.proofs.Common.{Some, Ok, ap}
+use Rattle.ir_tree.specs.declared.module.GlobalValue.TheVariants as global
+use Rattle.ir_parse_names.specs.Resolving.{◌>>=◌}
+use Rattle.ir_parse.proofs.values.variable_value.Goals as goal
+
+pub returns : goal.returns
+returns c = ap (λ r. r >>= λ t. Ok (Some (global.Variable t))) c.in_ok-made.ensures
