@@ -1,8 +1,11 @@
 -- Members of a structure one behind another, as a loop reads them: it knows whether one more comes.
-use Rattle.std.proofs.Common.{◌≡◌, ◌≤◌, ◌<◌, nat_eq, Bool, true, false, not, cond, ◌||◌, List, [], ◌∷◌, ◌++◌, length, Result, Ok, Err, refl, sym, ap, subst, ◌∙◌, arith}
+use Rattle.std.proofs.Common.{◌≡◌, ◌≤◌, ◌<◌, nat_eq, Bool, true, false, not, cond, ◌||◌, List, [], ◌∷◌, ◌++◌, length, Option, Some, None, Result, Ok, Err, refl, sym, ap, subst, ◌∙◌, arith}
 use Rattle.ir_lex.specs.declared.token_kind.TokenKind.TheVariants as kinds
 use Rattle.ir_lex.specs.TokenKinds.{number}
-use Rattle.ir_lex.specs.Tok.{Tok}
+use Rattle.std.specs.Option.{MatchOption}
+use Rattle.std.proofs.lemmas.Bool.{false≢true}
+use Rattle.ir_lex.specs.declared.token.Token.{Token}
+use Rattle.ir_lex.specs.Tok.{Tok, tok}
 use Rattle.ir_parse_parts.specs.Alphabet.{among}
 use Rattle.ir_parse_parts.specs.Chained.{chain_at}
 use Rattle.ir_parse_parts.specs.declared.fault.Fault.{Fault}
@@ -33,6 +36,10 @@ comma_here t ts h = by_class (nat_eq (number t.kind) (number kinds.Comma)) refl 
 
 comma_comes : (t : Tok) (ts : List Tok) → among tokens COMMA t ≡ true → comma_at (t ∷ ts) ≡ Ok (true, ts)
 comma_comes t ts h = rw h (ap (λ (r : Result (Unit {0} × List Tok) Fault). follow r (λ _. done true)) (comma_here t ts h))
+
+pub comma_taken : (ts rest : List Tok) (taken : Option Token) → next_is (among tokens COMMA) ts ≡ true → MatchOption taken ((ts ≡ []) × (rest ≡ [])) (λ t. ts ≡ tok t ∷ rest) → comma_at ts ≡ Ok (true, rest)
+comma_taken ts rest None h e = absurd (false≢true (sym (ap (next_is (among tokens COMMA)) e.0) ∙ h))
+comma_taken ts rest (Some t) h e = ap comma_at e ∙ comma_comes (tok t) rest (sym (ap (next_is (among tokens COMMA)) e) ∙ h)
 
 comma_doesnt : (t : Tok) (ts : List Tok) → among tokens COMMA t ≡ false → comma_at (t ∷ ts) ≡ Ok (false, t ∷ ts)
 comma_doesnt t ts h = rw h refl

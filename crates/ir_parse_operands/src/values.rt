@@ -172,10 +172,10 @@ fn closing_one_at(alloc: Global, typed: Typed, tokens: &mut Tokens) -> Result<Le
 /// first.
 fn closing_at(
     alloc: Global,
-    outer: &mut Vec<Typed>,
+    mut outer: Vec<Typed>,
     tokens: &mut Tokens,
 ) -> Result<Vec<Level>, ReaderError>
-    ensures { Returns (λ x. (x.items, tokens.new)) result (closing_at (reverse outer.old.items) tokens.old) }
+    ensures { Returns (λ x. (x.items, tokens.new)) result (closing_at (reverse outer.items) tokens.old) }
 {
     let mut levels = Vec::new(alloc);
     'each: while let Some(typed) = outer.pop() {
@@ -189,10 +189,10 @@ fn closing_at(
 fn pointee_at(alloc: Global, tokens: &mut Tokens) -> Result<Typed, ReaderError>
     ensures { Returns (λ x. (x, tokens.new)) result (follow (memory_shape_at tokens.old) (λ x behind. follow (the_at Comma behind) (λ _ after. follow (pointer_at after) (λ _. done x)))) }
 {
-    let shape = memory_shape_at(alloc, tokens)?;
+    let typed = memory_shape_at(alloc, tokens)?.typed;
     expect(TokenKind::Comma, tokens)?;
     pointer_at(tokens)?;
-    Ok(shape.typed)
+    Ok(typed)
 }
 
 /// Reads the beginning of a level, and adds it.
@@ -267,9 +267,9 @@ pub fn global_at(alloc: Global, tokens: &mut Tokens) -> Result<Name, ReaderError
 pub fn address_at(alloc: Global, tokens: &mut Tokens) -> Result<Operand, ReaderError>
     ensures { Returns (λ x. (x, tokens.new)) result (address_at tokens.old) }
 {
-    let mut outer = all_openings_at(alloc, tokens)?;
+    let outer = all_openings_at(alloc, tokens)?;
     let name = global_at(alloc, tokens)?;
-    let levels = closing_at(alloc, &mut outer, tokens)?;
+    let levels = closing_at(alloc, outer, tokens)?;
     let steps = Steps {
         name,
         levels: Rows::of(levels),

@@ -8,8 +8,8 @@ use Rattle.ir_parse_operands.proofs.values.closing_at.Goals as goal
 
 pub each-init : goal.each-init
 each-init c =
-    ap (λ (x : List Level). with_front x (closing_at (reverse c.args.outer.now.items) c.args.tokens.now)) c.new-levels.ensures.items
-    ∙ none_before (closing_at (reverse c.args.outer.now.items) c.args.tokens.now)
+    ap (λ (x : List Level). with_front x (closing_at (reverse c.args.outer.items) c.args.tokens.now)) c.new-levels.ensures.items
+    ∙ none_before (closing_at (reverse c.args.outer.items) c.args.tokens.now)
 
 pub each-preserved : goal.each-preserved
 each-preserved c =
