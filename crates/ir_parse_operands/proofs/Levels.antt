@@ -49,3 +49,9 @@ gives_as {Y = Y} view x r r' e h = subst (λ (y : Result Y Fault). Returns view 
 -- what was read is given back
 pub given : {X Y : Type 0} (view : X → Y) (result : Result X (Failure Fault)) (x : X) (read : Result Y Fault) → result ≡ Ok x → read ≡ Ok (view x) → Returns view result read
 given view result x read e h = subst (λ r. Returns view r read) (sym e) h
+
+-- what was read before is given back, where what stands behind it is read
+pub given_behind : {T X Y : Type 0} (y : Y) (rest : List T) (result : Result X (Failure Fault)) (read : Result (Unit {0} × List T) Fault) → Returns (λ x. (tt, rest)) result read → Returns (λ x. (y, rest)) result (follow read (λ _. done y))
+given_behind {T} y rest (Ok x) read e = ap (λ (r : Result (Unit {0} × List T) Fault). follow r (λ _. done y)) e
+given_behind y rest (Err errors.NoMemory) read e = tt
+given_behind {T} y rest (Err (errors.Fault f)) read e = ap (λ (r : Result (Unit {0} × List T) Fault). follow r (λ _. done y)) e

@@ -10,13 +10,14 @@ use Rattle.ir_parse_parts.specs.declared.raw.Terminator.{Terminator}
 use Rattle.ir_parse_parts.specs.declared.raw.Terminator.TheVariants as terminators
 use Rattle.ir_parse_parts.specs.MetadataAt.{attachments_at}
 use Rattle.ir_parse_parts.specs.OperandsAt.{reg_at, result_at}
-use Rattle.ir_parse_parts.specs.Readers.{◌>>=◌, done, next_is}
+use Rattle.ir_parse_parts.specs.Readers.{◌>>=◌, done, follow, next_is}
 use Rattle.ir_parse_operands.specs.declared.terminators.Ending.{Ending}
 use Rattle.ir_parse_operands.specs.declared.terminators.Matched.{Matched}
 use Rattle.ir_parse_operands.specs.Terminators.{ENDS, ending_of}
-use Rattle.ir_parse_operands.specs.TerminatorsAt.{LABEL, behind_end_at, branching_at, case_at, case_of_at, choosing_at, constant_at, returned_at, returning_at, target_at, terminator_at}
+use Rattle.ir_parse_operands.specs.TerminatorsAt.{LABEL, behind_end_at, branch_at, branching_at, case_at, case_of_at, choosing_at, constant_at, returned_at, returning_at, target_at, terminator_at}
 use Rattle.ir_parse_operands.specs.ValuesAt.{operand_at}
 use Rattle.ir_parse_operands.proofs.Choices.{goes_on, passes_over, picks}
+use Rattle.ir_parse_operands.proofs.Grouping.{grouped}
 
 pub returns_nothing : (ts after : List Tok) → result_at ts ≡ Ok (None, after) → returning_at ts ≡ Ok (terminators.Return None, after)
 unfolding returning_at
@@ -38,19 +39,17 @@ pub chooses : (ts : List Tok) → next_is (among tokens LABEL) ts ≡ false → 
 unfolding branching_at
 chooses ts h = passes_over (among tokens LABEL) (target_at >>= λ x. done (terminators.Jump x)) choosing_at ts h
 
-pub case_read : (ts behind_reg behind_number behind_comma after : List Tok) (r : Reg) (m : Matched) (to : Tok) → reg_at ts ≡ Ok (r, behind_reg) → constant_at r behind_reg ≡ Ok (m, behind_number) → the_at kinds.Comma behind_number ≡ Ok (tt, behind_comma) → target_at behind_comma ≡ Ok (to, after)
-    → case_at ts ≡ Ok (record { reg = r; width = m.width; bits = m.bits; target = to }, after)
-unfolding case_at case_of_at
-case_read ts behind_reg behind_number behind_comma after r m to e f g h =
+pub case_begun : (ts behind_reg behind_number : List Tok) (r : Reg) (m : Matched) → reg_at ts ≡ Ok (r, behind_reg) → constant_at r behind_reg ≡ Ok (m, behind_number)
+    → case_at ts ≡ follow (branch_at behind_number) (λ to. done (record { reg = r; width = m.width; bits = m.bits; target = to }))
+unfolding case_at case_of_at branch_at
+case_begun ts behind_reg behind_number r m e f =
     goes_on case_of_at (reg_at ts) r behind_reg e
     ∙ goes_on (λ n. the_at kinds.Comma >>= λ _. target_at >>= λ x. done (record { reg = r; width = n.width; bits = n.bits; target = x })) (constant_at r behind_reg) m behind_number f
-    ∙ goes_on (λ _. target_at >>= λ x. done (record { reg = r; width = m.width; bits = m.bits; target = x })) (the_at kinds.Comma behind_number) tt behind_comma g
-    ∙ goes_on (λ x. done (record { reg = r; width = m.width; bits = m.bits; target = x })) (target_at behind_comma) to after h
+    ∙ grouped (λ _. target_at) (λ x. done (record { reg = r; width = m.width; bits = m.bits; target = x })) (the_at kinds.Comma behind_number)
 
-pub terminator_read : (ts behind_first behind_parts after : List Tok) (e : Ending) (t : Terminator) → one_of_at ENDS ending_of ts ≡ Ok (e, behind_first) → behind_end_at e.end behind_first ≡ Ok (t, behind_parts) → attachments_at behind_parts ≡ Ok (tt, after)
-    → terminator_at ts ≡ Ok (record { terminator = t; line = e.line }, after)
+pub terminator_begun : (ts behind_first behind_parts : List Tok) (e : Ending) (t : Terminator) → one_of_at ENDS ending_of ts ≡ Ok (e, behind_first) → behind_end_at e.end behind_first ≡ Ok (t, behind_parts)
+    → terminator_at ts ≡ follow (attachments_at behind_parts) (λ _. done (record { terminator = t; line = e.line }))
 unfolding terminator_at
-terminator_read ts behind_first behind_parts after e t f g h =
+terminator_begun ts behind_first behind_parts e t f g =
     goes_on (λ x. behind_end_at x.end >>= λ y. attachments_at >>= λ _. done (record { terminator = y; line = x.line })) (one_of_at ENDS ending_of ts) e behind_first f
     ∙ goes_on (λ y. attachments_at >>= λ _. done (record { terminator = y; line = e.line })) (behind_end_at e.end behind_first) t behind_parts g
-    ∙ goes_on (λ _. done (record { terminator = t; line = e.line })) (attachments_at behind_parts) tt after h

@@ -1,14 +1,13 @@
 //! Reads `alloca` and `getelementptr` (LangRef, "alloca Instruction", "getelementptr Instruction").
 
-ghost use Rattle.std.specs.Prelude.{◌≡◌, ◌*◌, nat_le, true, None, Ok};
+ghost use Rattle.std.specs.Prelude.{◌≡◌, ◌*◌, nat_le, true};
 ghost use Rattle.ir_lex.specs.Tok.{tok};
-ghost use Rattle.ir_lex.specs.declared.token_kind.TokenKind.TheVariants.{Comma};
 ghost use Rattle.ir_parse_parts.specs.Alphabet.{among};
-ghost use Rattle.ir_parse_parts.specs.Readers.{Returns, follow};
+ghost use Rattle.ir_parse_parts.specs.Readers.{Returns};
 ghost use Rattle.ir_parse_operands.specs.Adding.{gathered_at, pushed_at};
-ghost use Rattle.ir_parse_operands.specs.Addressing.{keep, slots, slots_fit};
+ghost use Rattle.ir_parse_operands.specs.Addressing.{keep, slots_fit};
 ghost use Rattle.ir_parse_operands.specs.AddressingAt.{addressing_at, behind_comma_at, count_in_at, count_means, further_at, indices_at, many_slots_at, one_slot_at, reserving_at, slots_at, slots_behind_at, steps_at};
-ghost use Rattle.ir_parse_parts.specs.Classes.{tokens, the_at};
+ghost use Rattle.ir_parse_parts.specs.Classes.{tokens};
 ghost use Rattle.ir_parse_operands.specs.Extents.{all_nest_within, extent_of, nests_within};
 ghost use Rattle.ir_parse_parts.specs.Literals.{IsWidth};
 ghost use Rattle.ir_parse_operands.specs.Listing.{put_at};
@@ -163,29 +162,6 @@ fn slots_at(alloc: Global, shape: &Measured, tokens: &mut Tokens) -> Result<Slot
     }
 }
 
-/// What stands where neither is written: one slot, of no alignment.
-fn unwritten_slots() -> Result<Slots, ReaderError>
-    ensures { result ≡ Ok (slots 1 None) }
-{
-    Ok(Slots {
-        count: 1,
-        align: None,
-    })
-}
-
-/// Reads `, iN Number [, align N]` or `, align N`, and the attachments.
-fn slots_behind_comma_at(
-    alloc: Global,
-    shape: &Measured,
-    tokens: &mut Tokens,
-) -> Result<Slots, ReaderError>
-    requires { shape.now.extent ≡ extent_of shape.now.typed.shape }
-    ensures { Returns (λ x. (x, tokens.new)) result (follow (the_at Comma tokens.old) (λ _. slots_at (slots_fit shape.now.typed.shape))) }
-{
-    expect(TokenKind::Comma, tokens)?;
-    slots_at(alloc, shape, tokens)
-}
-
 /// Reads `[, iN Number] [, align N]` and the attachments.
 #[tactic(auto, unfolding(crate::specs::AddressingAt::slots_behind_at))]
 fn slots_behind_at(
@@ -197,9 +173,13 @@ fn slots_behind_at(
     ensures { Returns (λ x. (x, tokens.new)) result (slots_behind_at (slots_fit shape.now.typed.shape) tokens.old) }
 {
     if tokens.comes(TokenKind::Comma) {
-        slots_behind_comma_at(alloc, shape, tokens)
+        expect(TokenKind::Comma, tokens)?;
+        slots_at(alloc, shape, tokens)
     } else {
-        unwritten_slots()
+        Ok(Slots {
+            count: 1,
+            align: None,
+        })
     }
 }
 

@@ -188,8 +188,7 @@ fn case_at(alloc: Global, tokens: &mut Tokens) -> Result<Case, ReaderError>
 {
     let reg = reg_at(tokens)?;
     let matched = constant_at(reg, tokens)?;
-    expect(TokenKind::Comma, tokens)?;
-    let target = target_at(alloc, tokens)?;
+    let target = branch_at(alloc, tokens)?;
     done(Case {
         reg,
         width: matched.width,
@@ -339,6 +338,5 @@ pub fn terminator_into(
     let ending = ending_at(tokens)?;
     place.line = ending.line;
     behind_end_into(alloc, ending.end, &mut place.terminator, tokens)?;
-    attachments_at(alloc, tokens)?;
-    Ok(())
+    attachments_at(alloc, tokens)
 }
