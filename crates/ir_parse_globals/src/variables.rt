@@ -4,13 +4,16 @@ ghost use Rattle.std.specs.Prelude.{◌≡◌, IfSome, IfOk};
 ghost use Rattle.ir_lex.specs.TokenKinds.{number};
 ghost use Rattle.ir_lex.specs.Tok.{tok};
 ghost use Rattle.ir_parse_parts.specs.Alphabet.{contains, among};
-ghost use Rattle.ir_parse_parts.specs.Readers.{Returns, next_is};
+ghost use Rattle.ir_parse_parts.specs.Readers.{Returns, done, follow, next_is};
 ghost use Rattle.ir_parse_parts.specs.Rules.{is_valued};
 ghost use Rattle.ir_parse_parts.specs.Classes.{tokens, one_of_at};
 ghost use Rattle.ir_parse_heads.specs.FunctionHeads.{LINKAGES, linkage_word, name_refusal};
 ghost use Rattle.ir_parse_parts.specs.declared.raw.Item.TheVariants as items;
 ghost use Rattle.ir_parse_parts.specs.Operands.{IsReg, global_named};
 ghost use Rattle.ir_parse_operands.specs.Adding.{pushed_at};
+ghost use Rattle.ir_parse_operands.specs.ShapeFormsAt.{memory_shape_at};
+ghost use Rattle.ir_parse_globals.specs.declared.variables.Body.{Body};
+ghost use Rattle.ir_parse_globals.specs.Initialisers.{scalar_of};
 ghost use Rattle.ir_parse_globals.specs.Variables.{KINDS, NAMES, is_constant, is_declared, variable, with_align};
 ghost use Rattle.ir_parse_globals.specs.VariablesAt.{variable_name_at, linkage_at, qualifiers_at, linked_at, value_at, comdat_name_at, in_comdat_at, aligned_at, marked_at, further_at, headed_at, tail_at, behind_kind_at, variable_line_at};
 
@@ -296,8 +299,30 @@ fn variable_of(headed: Headed, typed: Typed, init: Option<Init>, align: Option<u
     }
 }
 
+/// What stands behind `global` or `constant`: the shape, the initialiser and the alignment, where they are
+/// written.
+#[derive(Drop)]
+struct Body {
+    typed: Typed,
+    init: Option<Init>,
+    align: Option<u64>,
+}
+
+/// Reads what stands behind `global` or `constant`, for a variable of this linkage.
+fn body_at(
+    alloc: Global,
+    linkage: Option<Linkage>,
+    tokens: &mut Tokens,
+) -> Result<Body, ReaderError>
+    ensures { Returns (λ x. (x, tokens.new)) result (follow {B = Body} (memory_shape_at tokens.old) (λ typed behind. follow (value_at (is_declared linkage) (scalar_of typed.shape) behind) (λ init after. follow (tail_at after) (λ align. done (record { typed = typed; init = init; align = align }))))) }
+{
+    let typed = shape_at(alloc, tokens)?;
+    let init = value_at(alloc, is_declared(linkage), scalar_of(&typed.shape), tokens)?;
+    let align = tail_at(alloc, tokens)?;
+    Ok(Body { typed, init, align })
+}
+
 /// Reads what stands behind `global` or `constant`: the rest of the variable that is headed so.
-#[tactic(auto, unfolding(crate::specs::VariablesAt::behind_kind_at))]
 fn behind_kind_at(
     alloc: Global,
     headed: Headed,
@@ -305,15 +330,8 @@ fn behind_kind_at(
 ) -> Result<Variable, ReaderError>
     ensures { Returns (λ x. (items.Variable x, tokens.new)) result (behind_kind_at headed.name headed.linkage headed.constant tokens.old) }
 {
-    let typed = shape_at(alloc, tokens)?;
-    let init = value_at(
-        alloc,
-        is_declared(headed.linkage),
-        scalar_of(&typed.shape),
-        tokens,
-    )?;
-    let align = tail_at(alloc, tokens)?;
-    Ok(variable_of(headed, typed, init, align))
+    let body = body_at(alloc, headed.linkage, tokens)?;
+    Ok(variable_of(headed, body.typed, body.init, body.align))
 }
 
 /// Reads a variable, `@g = internal constant [2 x i8] c"a\00", align 1`, and adds it.
