@@ -13,3 +13,5 @@ pub mod Loops
 pub mod Samples
 pub mod SuccessiveRules
 pub mod WrittenTypes
+mod MeantTokens
+mod OtherKinds

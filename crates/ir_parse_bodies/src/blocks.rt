@@ -15,6 +15,7 @@ ghost use Rattle.ir_parse_bodies.specs.BlocksAt.{BLOCK, label_at, maybe_label_at
 ghost use Rattle.ir_parse_bodies.specs.LinesAt.{LINE};
 
 use crate::lines::line_into;
+use crate::meanings::meant;
 use ir_lex::{Token, TokenKind};
 use ir_parse_operands::{Ended, Listing, push, terminator_into};
 use ir_parse_parts::{
@@ -118,10 +119,7 @@ fn label_at(alloc: Global, tokens: &mut Tokens) -> Result<Name, ReaderError>
             left,
             kind: TokenFault::Syntax,
         })),
-        Some(t) => match label_means(alloc, &t)? {
-            Ok(x) => Ok(x),
-            Err(kind) => Err(ReaderError::Fault(Fault { left, kind })),
-        },
+        Some(t) => meant(left, label_means(alloc, &t)?),
     }
 }
 

@@ -15,6 +15,7 @@ ghost use Rattle.ir_parse_bodies.specs.Listed.{kept_in, listed_at};
 ghost use Rattle.ir_parse_bodies.specs.Calls.{same_reg, is_type, marker_refusal, called};
 ghost use Rattle.ir_parse_bodies.specs.CallsAt.{CONVENTIONS, convention_at, conventions_at, written_type_at, further_type_at, types_behind_at, some_types_at, listed_types_at, types_at, argument_behind_at, argument_at, further_argument_at, some_arguments_at, any_arguments_at, type_again_at, argument_of_at, further_of_at, some_of_at, arguments_of_at, arguments_at, called_value_at, marker_at, unmarked_at, unmarked_value_at, callee_at, maybe_types_at, called_at, calling_of_at, calling_at, tail_calling_at};
 
+use crate::meanings::meant;
 use ir_lex::{Token, TokenKind};
 use ir_parse_heads::{
     call_attributes_at, end_of_none_at, parameter_attribute_at, parameter_attributes_at,
@@ -66,8 +67,24 @@ fn conventions_at(alloc: Global, tokens: &mut Tokens) -> Result<(), ReaderError>
     Ok(())
 }
 
-/// Takes the type of a parameter of a callee.
+/// What a token means as the type of a parameter of a callee.
 #[tactic(auto, unfolding(ir_parse_parts::specs::Rules::is_among))]
+fn written_type_means(
+    alloc: Global,
+    t: &Token,
+) -> Result<Result<Name, TokenFault>, AllocError>
+    ensures { IfOk result (λ x. x ≡ is_among tokens type_refusal REG itself (tok t.now)) }
+{
+    match t.kind {
+        TokenKind::MemoryInteger | TokenKind::RegisterInteger | TokenKind::Ptr => {
+            let name = Name::of(alloc, t)?;
+            Ok(Ok(name))
+        }
+        head => Ok(Err(type_refusal(head))),
+    }
+}
+
+/// Takes the type of a parameter of a callee.
 fn written_type_at(alloc: Global, tokens: &mut Tokens) -> Result<Name, ReaderError>
     ensures { Returns (λ x. (x, tokens.new)) result (written_type_at tokens.old) }
 {
@@ -77,16 +94,7 @@ fn written_type_at(alloc: Global, tokens: &mut Tokens) -> Result<Name, ReaderErr
             left,
             kind: TokenFault::Syntax,
         })),
-        Some(t) => match t.kind {
-            TokenKind::MemoryInteger | TokenKind::RegisterInteger | TokenKind::Ptr => {
-                let name = Name::of(alloc, &t)?;
-                done(name)
-            }
-            head => Err(ReaderError::Fault(Fault {
-                left,
-                kind: type_refusal(head),
-            })),
-        },
+        Some(t) => meant(left, written_type_means(alloc, &t)?),
     }
 }
 
@@ -261,10 +269,7 @@ fn type_again_at(written: &Name, tokens: &mut Tokens) -> Result<Reg, ReaderError
             left,
             kind: TokenFault::Syntax,
         })),
-        Some(t) => match type_again(&token, &t) {
-            Ok(x) => Ok(x),
-            Err(kind) => Err(ReaderError::Fault(Fault { left, kind })),
-        },
+        Some(t) => meant(left, type_again(&token, &t)),
     }
 }
 
@@ -375,10 +380,7 @@ fn unmarked_at(alloc: Global, tokens: &mut Tokens) -> Result<Operand, ReaderErro
             left,
             kind: TokenFault::Syntax,
         })),
-        Some(t) => match unmarked_means(alloc, &t)? {
-            Ok(x) => Ok(x),
-            Err(kind) => Err(ReaderError::Fault(Fault { left, kind })),
-        },
+        Some(t) => meant(left, unmarked_means(alloc, &t)?),
     }
 }
 

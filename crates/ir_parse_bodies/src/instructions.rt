@@ -12,6 +12,7 @@ ghost use Rattle.ir_parse_bodies.specs.Instructions.{is_nuw, with_wrap, no_flags
 ghost use Rattle.ir_parse_operands.specs.Listing.{put_at};
 ghost use Rattle.ir_parse_bodies.specs.InstructionsAt.{arm_at, second_at, wraps_at, on_two_at, wrapping_at, dividing_at, joining_at, comparing_at, casting_at, extending_at, narrowing_at, selecting_at, freezing_at, loading_at, storing_at};
 
+use crate::meanings::meant;
 use ir_lex::{Token, TokenKind};
 use ir_parse_operands::{Listing, align_at, argument_at, operand_at, pointed_at};
 use ir_parse_parts::{
@@ -190,10 +191,7 @@ fn predicate_at(tokens: &mut Tokens) -> Result<Predicate, ReaderError>
             left,
             kind: TokenFault::Syntax,
         })),
-        Some(t) => match predicate_means(&t) {
-            Ok(x) => Ok(x),
-            Err(kind) => Err(ReaderError::Fault(Fault { left, kind })),
-        },
+        Some(t) => meant(left, predicate_means(&t)),
     }
 }
 

@@ -25,6 +25,7 @@ mod definitions;
 mod instructions;
 mod laws;
 mod lines;
+mod meanings;
 mod opcodes;
 mod phis;
 

@@ -7,6 +7,7 @@ ghost use Rattle.ir_parse_parts.specs.Rules.{is_among};
 ghost use Rattle.ir_parse_parts.specs.Classes.{tokens, refusal, one_of_at};
 ghost use Rattle.ir_parse_bodies.specs.Lines.{GIVING, OPCODES, opcode_of, begun_of};
 
+use crate::meanings::meant;
 use ir_lex::{Token, TokenKind};
 use ir_parse_parts::{Fault, ReaderError, TokenFault, Tokens, refusal};
 use ir_tree::BinaryOp;
@@ -119,10 +120,7 @@ pub fn giving_at(tokens: &mut Tokens) -> Result<Opcode, ReaderError>
             left,
             kind: TokenFault::Syntax,
         })),
-        Some(t) => match giving_means(&t) {
-            Ok(x) => Ok(x),
-            Err(kind) => Err(ReaderError::Fault(Fault { left, kind })),
-        },
+        Some(t) => meant(left, giving_means(&t)),
     }
 }
 
@@ -136,9 +134,6 @@ pub fn begun_at(tokens: &mut Tokens) -> Result<Begun, ReaderError>
             left,
             kind: TokenFault::Syntax,
         })),
-        Some(t) => match begun_means(&t) {
-            Ok(x) => Ok(x),
-            Err(kind) => Err(ReaderError::Fault(Fault { left, kind })),
-        },
+        Some(t) => meant(left, begun_means(&t)),
     }
 }
