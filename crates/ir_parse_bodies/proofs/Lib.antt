@@ -15,3 +15,6 @@ pub mod SuccessiveRules
 pub mod WrittenTypes
 mod MeantTokens
 mod OtherKinds
+pub mod Successions
+mod CallReadings
+mod BlockHeads

@@ -7,6 +7,7 @@ use Rattle.ir_parse_parts.specs.declared.raw.Block.{Block}
 use Rattle.ir_parse_bodies.specs.BlocksAt.{BLOCK, block_at, further_blocks_at}
 use Rattle.ir_parse_bodies.proofs.Additions.{added_fails, added_read, front_joined}
 use Rattle.ir_parse_bodies.proofs.Loops.{pieces_on, pieces_none, pieces_fail}
+use Rattle.ir_parse_bodies.proofs.Successions.{passed_on}
 use Rattle.ir_parse_bodies.proofs.blocks.further_blocks_into.Goals as goal
 
 pub each-preserved : goal.each-preserved
@@ -24,4 +25,4 @@ returns-in_err-left c =
     let k = added_fails c.each.blocks.list.items c.in_err-left.field-0.0 (block_at c.each.left c.each.tokens) c.in_err-left.ensures in
     let f : Fails c.in_err-left.field-0.0 (follow (further_blocks_at c.args.further c.args.instructions c.args.tokens.now) (λ more. done (c.args.blocks.now.list.items ++ more))) =
     pieces_fail (among tokens BLOCK) block_at c.in_err-left.field-0.0 c.each.blocks.list.items c.each.room c.each.left c.each.tokens _ (omega arith) c.each-test.ensures k (c.each.invariant ∙ front_joined c.args.blocks.now.list.items (further_blocks_at c.args.further c.args.instructions c.args.tokens.now)) in
-    grind (arith, f)
+    passed_on _ _ _ _ c.from_residual.ensures f

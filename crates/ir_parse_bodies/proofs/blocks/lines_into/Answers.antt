@@ -9,6 +9,7 @@ use Rattle.ir_parse_bodies.specs.BlocksAt.{all_lines_at}
 use Rattle.ir_parse_bodies.specs.LinesAt.{LINE, line_at}
 use Rattle.ir_parse_bodies.proofs.Additions.{kept_fails, kept_read}
 use Rattle.ir_parse_bodies.proofs.Loops.{counted, counted_is, counts_on, counts_none, counts_fail}
+use Rattle.ir_parse_bodies.proofs.Successions.{passed_on}
 use Rattle.ir_parse_bodies.proofs.blocks.lines_into.Goals as goal
 
 pub each-preserved : goal.each-preserved
@@ -25,4 +26,4 @@ returns-in_err-line_into c =
     let k = kept_fails c.each.list.lines.items c.in_err-line_into.field-0.0 (line_at c.each.tokens) c.in_err-line_into.ensures in
     let f : Fails c.in_err-line_into.field-0.0 (follow (all_lines_at c.args.room c.args.tokens.now) (λ ls. done (fold keep c.args.list.now.lines.items ls, c.args.room - length ls))) =
     counts_fail (among tokens LINE) line_at keep c.in_err-line_into.field-0.0 c.each.list.lines.items c.each.left c.each.tokens _ (omega arith) c.each-test.ensures k (c.each.invariant ∙ counted_is keep c.args.list.now.lines.items c.args.room (all_lines_at c.args.room c.args.tokens.now)) in
-    grind (arith, f)
+    passed_on _ _ _ _ c.from_residual.ensures f

@@ -1,4 +1,4 @@
-use Rattle.std.proofs.Common.{List, sym, ap, ◌∙◌, arith}
+use Rattle.std.proofs.Common.{List, sym, ap, ◌∙◌}
 use Rattle.ir_parse_parts.specs.Alphabet.{among}
 use Rattle.ir_parse_parts.specs.Readers.{Fails, folded, follow, star_at}
 use Rattle.ir_parse_parts.proofs.Stars.{behind, takes, folds_fail, folds_on, folds_none}
@@ -10,6 +10,7 @@ use Rattle.ir_parse_bodies.specs.Adding.{joined_at}
 use Rattle.ir_parse_bodies.specs.CallsAt.{argument_at, arguments_behind_at, further_argument_at, some_arguments_at}
 use Rattle.ir_parse_bodies.proofs.Additions.{folded_joined, joined_to}
 use Rattle.ir_parse_bodies.proofs.CallRules.{further_argument_rule}
+use Rattle.ir_parse_bodies.proofs.Successions.{passed_on}
 use Rattle.ir_parse_bodies.proofs.calls.some_arguments_into.Goals as goal
 
 pub each-init : goal.each-init
@@ -39,10 +40,10 @@ returns-in_err-argument_into c =
     let k = first_fails _ _ arguments_behind_at (pushed_fails c.args.arguments.now.items c.in_err-argument_into.field-0.0 (argument_at c.args.tokens.now) c.in_err-argument_into.ensures) in
     let f : Fails c.in_err-argument_into.field-0.0 (follow (follow (argument_at c.args.tokens.now) arguments_behind_at) (joined_to c.args.arguments.now.items)) =
     first_fails _ _ (joined_to c.args.arguments.now.items) k in
-    grind (arith, f)
+    passed_on _ _ _ _ c.from_residual.ensures f
 
 pub returns-in_err-further_argument_into : goal.returns-in_err-further_argument_into
 returns-in_err-further_argument_into c =
     let f : Fails c.in_err-further_argument_into.field-0.0 (joined_at c.args.arguments.now.items some_arguments_at c.args.tokens.now) =
     folds_fail tokens (among tokens COMMA) further_argument_rule.law behind c.in_err-further_argument_into.field-0.0 c.each.arguments.items c.each.tokens _ c.each-test.ensures (pushed_fails c.each.arguments.items c.in_err-further_argument_into.field-0.0 (further_argument_at c.each.tokens) c.in_err-further_argument_into.ensures) c.each.invariant in
-    grind (arith, f)
+    passed_on _ _ _ _ c.from_residual-in_err-further_argument_into.ensures f

@@ -1,4 +1,4 @@
-use Rattle.std.proofs.Common.{◌≡◌, ◌+◌, List, drop, sym, ap, ◌∙◌, arith}
+use Rattle.std.proofs.Common.{◌≡◌, ◌+◌, List, drop, sym, ap, ◌∙◌}
 use Rattle.std.proofs.lemmas.List.{append-nil, drop_all}
 use Rattle.std.specs.Prelude.{Ok}
 use Rattle.ir_lex.specs.Tok.{Tok}
@@ -11,6 +11,7 @@ use Rattle.ir_parse_bodies.specs.Adding.{joined_at}
 use Rattle.ir_parse_bodies.specs.CallsAt.{argument_of_at, further_of_at, each_further_at, each_behind_at, some_of_at}
 use Rattle.ir_parse_bodies.proofs.Additions.{front_one, joined_to}
 use Rattle.ir_parse_bodies.proofs.Loops.{rest_from}
+use Rattle.ir_parse_bodies.proofs.Successions.{passed_on}
 use Rattle.ir_parse_bodies.proofs.calls.some_of_into.Goals as goal
 
 pub each-init : goal.each-init
@@ -40,7 +41,7 @@ returns-in_err-argument_of_into c =
     let k = first_fails _ _ (each_behind_at c.args.further.now) (pushed_fails c.args.arguments.now.items c.in_err-argument_of_into.field-0.0 (argument_of_at c.args.first.now c.args.tokens.now) c.in_err-argument_of_into.ensures) in
     let f : Fails c.in_err-argument_of_into.field-0.0 (follow (follow (argument_of_at c.args.first.now c.args.tokens.now) (each_behind_at c.args.further.now)) (joined_to c.args.arguments.now.items)) =
     first_fails _ _ (joined_to c.args.arguments.now.items) k in
-    grind (arith, f)
+    passed_on _ _ _ _ c.from_residual.ensures f
 
 pub returns-in_err-further_of_into : goal.returns-in_err-further_of_into
 returns-in_err-further_of_into c =
@@ -48,4 +49,4 @@ returns-in_err-further_of_into c =
     let e = rest_from c.args.further.now c.each.written-index c.written-item.result _ c.each-test.true c.written-item.is (λ (ws : List Tok). with_front c.each.arguments.items (each_further_at ws c.each.tokens) ≡ joined_at c.args.arguments.now.items (some_of_at c.args.first.now c.args.further.now) c.args.tokens.now) c.each.invariant in
     let f : Fails c.in_err-further_of_into.field-0.0 (joined_at c.args.arguments.now.items (some_of_at c.args.first.now c.args.further.now) c.args.tokens.now) =
     turn_fails (further_of_at c.written-item.result) rest c.in_err-further_of_into.field-0.0 c.each.arguments.items c.each.tokens _ (pushed_fails c.each.arguments.items c.in_err-further_of_into.field-0.0 (further_of_at c.written-item.result c.each.tokens) c.in_err-further_of_into.ensures) e in
-    grind (arith, f)
+    passed_on _ _ _ _ c.from_residual-in_err-further_of_into.ensures f

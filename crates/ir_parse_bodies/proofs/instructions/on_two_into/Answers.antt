@@ -1,15 +1,17 @@
-use Rattle.std.proofs.Common.{arith}
+use Rattle.std.proofs.Common.{refl, ◌∙◌}
 use Rattle.ir_parse_bodies.proofs.BehindCommas.{on_two_is}
+use Rattle.ir_parse_bodies.proofs.Successions.{fails_as, fails_behind, passed_on, reads_behind}
+use Rattle.ir_parse_operands.proofs.Additions.{first_fails, pushed_returns}
 use Rattle.ir_parse_bodies.proofs.instructions.on_two_into.Goals as goal
 
 pub returns : goal.returns
-returns c = grind (arith, on_two_is)
+returns c = pushed_returns _ _ _ _ _ _ c.put.ensures.put c.put.ensures.memory (reads_behind (on_two_is _ _ _ ∙ reads_behind c.in_ok-width.ensures.exact _ (reads_behind c.in_ok-left.ensures _ (reads_behind c.in_ok-right.ensures _ refl))) _ refl)
 
 pub returns-in_err-width : goal.returns-in_err-width
-returns-in_err-width c = grind (arith, on_two_is)
+returns-in_err-width c = passed_on _ _ _ _ c.from_residual.ensures (first_fails _ _ _ (fails_as (on_two_is _ _ _) _ (first_fails _ _ _ c.in_err-width.ensures.exact)))
 
 pub returns-in_err-left : goal.returns-in_err-left
-returns-in_err-left c = grind (arith, on_two_is)
+returns-in_err-left c = passed_on _ _ _ _ c.from_residual-in_err-left.ensures (first_fails _ _ _ (fails_as (on_two_is _ _ _) _ (fails_behind c.in_ok-width.ensures.exact _ _ (first_fails _ _ _ c.in_err-left.ensures))))
 
 pub returns-in_err-right : goal.returns-in_err-right
-returns-in_err-right c = grind (arith, on_two_is)
+returns-in_err-right c = passed_on _ _ _ _ c.from_residual-in_err-right.ensures (first_fails _ _ _ (fails_as (on_two_is _ _ _) _ (fails_behind c.in_ok-width.ensures.exact _ _ (fails_behind c.in_ok-left.ensures _ _ (first_fails _ _ _ c.in_err-right.ensures)))))

@@ -1,4 +1,4 @@
-use Rattle.std.proofs.Common.{◌≡◌, ◌<◌, Bool, false, not, Option, List, [], ◌∷◌, ◌++◌, length, Ok, sym, ap, ◌∙◌, arith}
+use Rattle.std.proofs.Common.{◌≡◌, ◌<◌, Bool, false, not, Option, List, [], ◌∷◌, ◌++◌, length, Ok, sym, ap, ◌∙◌}
 use Rattle.ir_lex.specs.Tok.{Tok}
 use Rattle.ir_parse_parts.specs.Alphabet.{among}
 use Rattle.ir_parse_parts.specs.Chained.{chain_at}
@@ -14,6 +14,7 @@ use Rattle.ir_parse_bodies.specs.Phis.{keep}
 use Rattle.ir_parse_bodies.specs.PhisAt.{all_entries_at, begins, further_at, entries_at}
 use Rattle.ir_parse_operands.proofs.Additions.{chain_fails, gathered_fails, gathered_read}
 use Rattle.ir_parse_bodies.proofs.PhiRules.{further_rule}
+use Rattle.ir_parse_bodies.proofs.Successions.{passed_on}
 use Rattle.ir_parse_bodies.proofs.phis.all_entries_at.Goals as goal
 
 shorter : (r : Reg) (s : Bool) (ts rest : List Tok) (x : Option Incoming × Bool) → further_at r s ts ≡ Ok (x, rest) → length rest < length ts
@@ -46,4 +47,4 @@ returns-in_err-attached c =
     let k = gathered_fails keep c.each.entries.items c.in_err-attached.field-0.0 (further_at c.args.reg c.each.attached c.each.tokens) c.in_err-attached.ensures in
     let f : Fails c.in_err-attached.field-0.0 (all_entries_at c.args.reg c.args.tokens.now) =
     chain_fails anywhere begins (further_at c.args.reg) keep c.in_err-attached.field-0.0 c.each.entries.items c.each.attached c.each.tokens _ (ap not (sym c.each-test.ensures)) k c.each.invariant in
-    grind (arith, f)
+    passed_on _ _ _ _ c.from_residual-in_err-attached.ensures f

@@ -1,0 +1,13 @@
+use Rattle.std.proofs.Common.{refl}
+use Rattle.ir_parse_bodies.specs.InstructionsAt.{joining_at}
+use Rattle.ir_parse_bodies.proofs.Successions.{passed_on, reads_behind, returns_within}
+use Rattle.ir_parse_operands.proofs.Additions.{first_fails}
+use Rattle.ir_parse_bodies.proofs.instructions.joining_into.Goals as goal
+
+pub returns : goal.returns
+unfolding joining_at
+returns c = returns_within (reads_behind c.in_ok-maybe_at.ensures _ refl) _ _ _ c.on_two_into.ensures
+
+pub returns-in_err-maybe_at : goal.returns-in_err-maybe_at
+unfolding joining_at
+returns-in_err-maybe_at c = passed_on _ _ _ _ c.from_residual.ensures (first_fails _ _ _ (first_fails _ _ _ c.in_err-maybe_at.ensures))
