@@ -69,10 +69,7 @@ fn conventions_at(alloc: Global, tokens: &mut Tokens) -> Result<(), ReaderError>
 
 /// What a token means as the type of a parameter of a callee.
 #[tactic(auto, unfolding(ir_parse_parts::specs::Rules::is_among))]
-fn written_type_means(
-    alloc: Global,
-    t: &Token,
-) -> Result<Result<Name, TokenFault>, AllocError>
+fn written_type_means(alloc: Global, t: &Token) -> Result<Result<Name, TokenFault>, AllocError>
     ensures { IfOk result (λ x. x ≡ is_among tokens type_refusal REG itself (tok t.now)) }
 {
     match t.kind {

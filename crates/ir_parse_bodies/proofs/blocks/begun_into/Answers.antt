@@ -9,7 +9,7 @@ use Rattle.ir_parse_bodies.proofs.blocks.begun_into.Goals as goal
 
 pub returns : goal.returns
 unfolding block_behind_at lines_at
-returns c = block_is c.args.room c.args.tokens.now ∙ reads_behind c.in_ok-begun.ensures _ (reads_behind (ap (λ (front : List WrittenLine) . lines_from_at c.args.room front c.maybe_label_at.new.tokens) (sym c.requires) ∙ c.in_ok-left.ensures) _ (reads_behind c.in_ok-terminator_into.ensures _ refl))
+returns c = block_is c.args.room c.args.tokens.now ∙ reads_behind c.in_ok-begun.ensures _ (reads_behind (ap (λ (front : List WrittenLine). lines_from_at c.args.room front c.maybe_label_at.new.tokens) (sym c.requires) ∙ c.in_ok-left.ensures) _ (reads_behind c.in_ok-terminator_into.ensures _ refl))
 
 pub returns-in_err-begun : goal.returns-in_err-begun
 unfolding block_behind_at lines_at
@@ -17,8 +17,8 @@ returns-in_err-begun c = passed_on _ _ _ _ c.from_residual.ensures (fails_as (bl
 
 pub returns-in_err-left : goal.returns-in_err-left
 unfolding block_behind_at lines_at
-returns-in_err-left c = passed_on _ _ _ _ c.from_residual-in_err-left.ensures (fails_as (block_is c.args.room c.args.tokens.now) _ (fails_behind c.in_ok-begun.ensures _ _ (first_fails _ _ _ (fails_as (ap (λ (front : List WrittenLine) . lines_from_at c.args.room front c.maybe_label_at.new.tokens) (sym c.requires)) _ c.in_err-left.ensures))))
+returns-in_err-left c = passed_on _ _ _ _ c.from_residual-in_err-left.ensures (fails_as (block_is c.args.room c.args.tokens.now) _ (fails_behind c.in_ok-begun.ensures _ _ (first_fails _ _ _ (fails_as (ap (λ (front : List WrittenLine). lines_from_at c.args.room front c.maybe_label_at.new.tokens) (sym c.requires)) _ c.in_err-left.ensures))))
 
 pub returns-in_err-terminator_into : goal.returns-in_err-terminator_into
 unfolding block_behind_at lines_at
-returns-in_err-terminator_into c = passed_on _ _ _ _ c.from_residual-in_err-terminator_into.ensures (fails_as (block_is c.args.room c.args.tokens.now) _ (fails_behind c.in_ok-begun.ensures _ _ (fails_behind (ap (λ (front : List WrittenLine) . lines_from_at c.args.room front c.maybe_label_at.new.tokens) (sym c.requires) ∙ c.in_ok-left.ensures) _ _ (first_fails _ _ _ c.in_err-terminator_into.ensures))))
+returns-in_err-terminator_into c = passed_on _ _ _ _ c.from_residual-in_err-terminator_into.ensures (fails_as (block_is c.args.room c.args.tokens.now) _ (fails_behind c.in_ok-begun.ensures _ _ (fails_behind (ap (λ (front : List WrittenLine). lines_from_at c.args.room front c.maybe_label_at.new.tokens) (sym c.requires) ∙ c.in_ok-left.ensures) _ _ (first_fails _ _ _ c.in_err-terminator_into.ensures))))

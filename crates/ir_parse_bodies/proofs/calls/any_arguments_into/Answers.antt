@@ -19,8 +19,8 @@ use Rattle.ir_parse_bodies.proofs.calls.any_arguments_into.Goals as goal
 
 pub returns-in_ok-some_arguments_into : goal.returns-in_ok-some_arguments_into
 unfolding any_arguments_at
-returns-in_ok-some_arguments_into c = returns_as (ap (λ (r : Result (List Argument × List Tok) Fault) . follow r (joined_to c.args.arguments.now.items)) (picks (among tokens REG) (some_arguments_at >>= λ all. the_at kinds.CloseParen >>= λ _. done all) (end_of_none_at >>= λ _. done []) c.args.tokens.now (sym c.if-comes_reg.ensures)) ∙ joined_closed c.args.arguments.now.items (the_at kinds.CloseParen) (some_arguments_at c.args.tokens.now)) _ _ (returns_behind c.in_ok-some_arguments_into.ensures _ _ _ (returns_through (λ (r : Result (Unit {0} × List Tok) Fault) . follow r (λ _. done c.some_arguments_into.new.arguments.items)) _ _ _ _ (λ f. refl) (refl) c.expect.ensures))
+returns-in_ok-some_arguments_into c = returns_as (ap (λ (r : Result (List Argument × List Tok) Fault). follow r (joined_to c.args.arguments.now.items)) (picks (among tokens REG) (some_arguments_at >>= λ all. the_at kinds.CloseParen >>= λ _. done all) (end_of_none_at >>= λ _. done []) c.args.tokens.now (sym c.if-comes_reg.ensures)) ∙ joined_closed c.args.arguments.now.items (the_at kinds.CloseParen) (some_arguments_at c.args.tokens.now)) _ _ (returns_behind c.in_ok-some_arguments_into.ensures _ _ _ (returns_through (λ (r : Result (Unit {0} × List Tok) Fault). follow r (λ _. done c.some_arguments_into.new.arguments.items)) _ _ _ _ (λ f. refl) (refl) c.expect.ensures))
 
 pub returns-in_err-some_arguments_into : goal.returns-in_err-some_arguments_into
 unfolding any_arguments_at
-returns-in_err-some_arguments_into c = passed_on _ _ _ _ c.from_residual.ensures (fails_as (ap (λ (r : Result (List Argument × List Tok) Fault) . follow r (joined_to c.args.arguments.now.items)) (picks (among tokens REG) (some_arguments_at >>= λ all. the_at kinds.CloseParen >>= λ _. done all) (end_of_none_at >>= λ _. done []) c.args.tokens.now (sym c.if-comes_reg.ensures)) ∙ joined_closed c.args.arguments.now.items (the_at kinds.CloseParen) (some_arguments_at c.args.tokens.now)) _ (first_fails _ _ _ c.in_err-some_arguments_into.ensures))
+returns-in_err-some_arguments_into c = passed_on _ _ _ _ c.from_residual.ensures (fails_as (ap (λ (r : Result (List Argument × List Tok) Fault). follow r (joined_to c.args.arguments.now.items)) (picks (among tokens REG) (some_arguments_at >>= λ all. the_at kinds.CloseParen >>= λ _. done all) (end_of_none_at >>= λ _. done []) c.args.tokens.now (sym c.if-comes_reg.ensures)) ∙ joined_closed c.args.arguments.now.items (the_at kinds.CloseParen) (some_arguments_at c.args.tokens.now)) _ (first_fails _ _ _ c.in_err-some_arguments_into.ensures))

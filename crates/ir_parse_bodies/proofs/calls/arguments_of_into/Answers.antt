@@ -15,10 +15,10 @@ use Rattle.ir_parse_operands.proofs.Additions.{first_fails}
 use Rattle.ir_parse_bodies.proofs.calls.arguments_of_into.Goals as goal
 
 pub returns-in_ok-some_of_into-in-len1-up : goal.returns-in_ok-some_of_into-in-len1-up
-returns-in_ok-some_of_into-in-len1-up c = returns_as (ap (λ (r : Result (List Argument × List Tok) Fault) . follow r (joined_to c.args.arguments.now.items)) (first_of_types c.args.types.now c.first-item.result c.args.tokens.now c.in-len1-up.len_at_least c.first-item.is) ∙ joined_closed c.args.arguments.now.items (the_at kinds.CloseParen) (some_of_at c.first-item.result (take (length c.args.types.now - 1) (drop 1 c.args.types.now)) c.args.tokens.now)) _ _ (returns_behind c.in_ok-some_of_into-in-len1-up.ensures _ _ _ (returns_through (λ (r : Result (Unit {0} × List Tok) Fault) . follow r (λ _. done c.some_of_into.new.arguments.items)) _ _ _ _ (λ f. refl) (refl) c.expect-in-len1-up.ensures))
+returns-in_ok-some_of_into-in-len1-up c = returns_as (ap (λ (r : Result (List Argument × List Tok) Fault). follow r (joined_to c.args.arguments.now.items)) (first_of_types c.args.types.now c.first-item.result c.args.tokens.now c.in-len1-up.len_at_least c.first-item.is) ∙ joined_closed c.args.arguments.now.items (the_at kinds.CloseParen) (some_of_at c.first-item.result (take (length c.args.types.now - 1) (drop 1 c.args.types.now)) c.args.tokens.now)) _ _ (returns_behind c.in_ok-some_of_into-in-len1-up.ensures _ _ _ (returns_through (λ (r : Result (Unit {0} × List Tok) Fault). follow r (λ _. done c.some_of_into.new.arguments.items)) _ _ _ _ (λ f. refl) (refl) c.expect-in-len1-up.ensures))
 
 pub returns-in_err-some_of_into-in-len1-up : goal.returns-in_err-some_of_into-in-len1-up
-returns-in_err-some_of_into-in-len1-up c = passed_on _ _ _ _ c.from_residual.ensures (fails_as (ap (λ (r : Result (List Argument × List Tok) Fault) . follow r (joined_to c.args.arguments.now.items)) (first_of_types c.args.types.now c.first-item.result c.args.tokens.now c.in-len1-up.len_at_least c.first-item.is) ∙ joined_closed c.args.arguments.now.items (the_at kinds.CloseParen) (some_of_at c.first-item.result (take (length c.args.types.now - 1) (drop 1 c.args.types.now)) c.args.tokens.now)) _ (first_fails _ _ _ c.in_err-some_of_into-in-len1-up.ensures))
+returns-in_err-some_of_into-in-len1-up c = passed_on _ _ _ _ c.from_residual.ensures (fails_as (ap (λ (r : Result (List Argument × List Tok) Fault). follow r (joined_to c.args.arguments.now.items)) (first_of_types c.args.types.now c.first-item.result c.args.tokens.now c.in-len1-up.len_at_least c.first-item.is) ∙ joined_closed c.args.arguments.now.items (the_at kinds.CloseParen) (some_of_at c.first-item.result (take (length c.args.types.now - 1) (drop 1 c.args.types.now)) c.args.tokens.now)) _ (first_fails _ _ _ c.in_err-some_of_into-in-len1-up.ensures))
 
 pub returns-in-empty : goal.returns-in-empty
-returns-in-empty c = returns_as (ap (λ (r : Result (List Argument × List Tok) Fault) . follow r (joined_to c.args.arguments.now.items)) (no_types c.args.types.now c.args.tokens.now c.in-empty.len_below)) _ _ (returns_through (λ (r : Result (Unit {0} × List Tok) Fault) . follow (follow r (λ _. done [])) (joined_to c.args.arguments.now.items)) _ _ _ _ (λ f. refl) (ap (λ (all : List Argument) . Ok (all, c.expect.new.tokens)) (append-nil c.args.arguments.now.items)) c.expect.ensures)
+returns-in-empty c = returns_as (ap (λ (r : Result (List Argument × List Tok) Fault). follow r (joined_to c.args.arguments.now.items)) (no_types c.args.types.now c.args.tokens.now c.in-empty.len_below)) _ _ (returns_through (λ (r : Result (Unit {0} × List Tok) Fault). follow (follow r (λ _. done [])) (joined_to c.args.arguments.now.items)) _ _ _ _ (λ f. refl) (ap (λ (all : List Argument). Ok (all, c.expect.new.tokens)) (append-nil c.args.arguments.now.items)) c.expect.ensures)

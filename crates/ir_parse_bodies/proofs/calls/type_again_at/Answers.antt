@@ -1,4 +1,3 @@
-
 use Rattle.std.proofs.Common.{ap, sym, ◌∙◌}
 use Rattle.ir_lex.specs.Tok.{tok}
 use Rattle.ir_parse_parts.specs.Classes.{tokens}

@@ -6,7 +6,7 @@ use Rattle.ir_parse_operands.proofs.Levels.{given}
 use Rattle.ir_parse_bodies.proofs.definitions.heading_at.Goals as goal
 
 pub returns : goal.returns
-returns c = given _ _ _ _ c.done.ensures (reads_behind c.in_ok-expect.ensures _ (reads_behind c.in_ok-head.ensures _ (reads_behind c.in_ok-kept.ensures _ (ap (λ (x : FunctionHeader) . Ok (x, c.definition_attributes_at.new.tokens)) (sym c.with_kept.ensures)))))
+returns c = given _ _ _ _ c.done.ensures (reads_behind c.in_ok-expect.ensures _ (reads_behind c.in_ok-head.ensures _ (reads_behind c.in_ok-kept.ensures _ (ap (λ (x : FunctionHeader). Ok (x, c.definition_attributes_at.new.tokens)) (sym c.with_kept.ensures)))))
 
 pub returns-in_err-expect : goal.returns-in_err-expect
 returns-in_err-expect c = passed_on _ _ _ _ c.from_residual.ensures (first_fails _ _ _ c.in_err-expect.ensures)

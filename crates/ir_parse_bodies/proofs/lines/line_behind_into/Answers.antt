@@ -10,7 +10,7 @@ use Rattle.ir_parse_bodies.proofs.lines.line_behind_into.Goals as goal
 
 pub returns : goal.returns
 unfolding line_behind_at
-returns c = returns_within (reads_behind c.in_ok-expect.ensures _ (reads_behind c.in_ok-opcode.ensures _ (ap (λ (n : ℕ) . follow (behind_at true c.in_ok-opcode.opcode c.giving_at.new.tokens) (λ i. done (lined (Some c.args.name) n i))) (sym c.line-list.ensures)))) _ _ _ c.behind_into.ensures
+returns c = returns_within (reads_behind c.in_ok-expect.ensures _ (reads_behind c.in_ok-opcode.ensures _ (ap (λ (n : ℕ). follow (behind_at true c.in_ok-opcode.opcode c.giving_at.new.tokens) (λ i. done (lined (Some c.args.name) n i))) (sym c.line-list.ensures)))) _ _ _ c.behind_into.ensures
 
 pub returns-in_err-expect : goal.returns-in_err-expect
 unfolding line_behind_at

@@ -12,15 +12,15 @@ use Rattle.ir_parse_bodies.proofs.phis.behind_comma_into.Goals as goal
 
 pub returns-in_ok-push : goal.returns-in_ok-push
 unfolding attaching_at entering_at
-returns-in_ok-push c = reads_behind (ap (λ (b : Bool) . behind_comma_at c.args.reg b c.args.tokens.now) c.if-attached.false ∙ passes_over (among tokens META) attaching_at (entering_at c.args.reg) c.args.tokens.now (sym c.comes_meta.ensures ∙ c.if-comes_meta.false) ∙ reads_behind c.in_ok-incoming.ensures _ refl) _ (ap (λ (all : List Incoming) . Ok ((all, false) , c.incoming_at.new.tokens)) (sym c.in_ok-push.ensures.pushed))
+returns-in_ok-push c = reads_behind (ap (λ (b : Bool). behind_comma_at c.args.reg b c.args.tokens.now) c.if-attached.false ∙ passes_over (among tokens META) attaching_at (entering_at c.args.reg) c.args.tokens.now (sym c.comes_meta.ensures ∙ c.if-comes_meta.false) ∙ reads_behind c.in_ok-incoming.ensures _ refl) _ (ap (λ (all : List Incoming). Ok ((all, false), c.incoming_at.new.tokens)) (sym c.in_ok-push.ensures.pushed))
 
 pub returns-in_ok-attached_at-2 : goal.returns-in_ok-attached_at-2
 unfolding attaching_at entering_at
-returns-in_ok-attached_at-2 c = reads_behind (ap (λ (b : Bool) . behind_comma_at c.args.reg b c.args.tokens.now) c.if-attached.false ∙ picks (among tokens META) attaching_at (entering_at c.args.reg) c.args.tokens.now (sym c.comes_meta.ensures ∙ c.if-comes_meta.true) ∙ reads_behind c.in_ok-attached_at-2.ensures _ refl) _ refl
+returns-in_ok-attached_at-2 c = reads_behind (ap (λ (b : Bool). behind_comma_at c.args.reg b c.args.tokens.now) c.if-attached.false ∙ picks (among tokens META) attaching_at (entering_at c.args.reg) c.args.tokens.now (sym c.comes_meta.ensures ∙ c.if-comes_meta.true) ∙ reads_behind c.in_ok-attached_at-2.ensures _ refl) _ refl
 
 pub returns-then-attached : goal.returns-then-attached
 unfolding attaching_at entering_at
-returns-then-attached c = reads_behind (ap (λ (b : Bool) . behind_comma_at c.args.reg b c.args.tokens.now) c.if-attached.true ∙ reads_behind c.in_ok-attached_at.ensures _ refl) _ refl
+returns-then-attached c = reads_behind (ap (λ (b : Bool). behind_comma_at c.args.reg b c.args.tokens.now) c.if-attached.true ∙ reads_behind c.in_ok-attached_at.ensures _ refl) _ refl
 
 pub returns-in_err-push : goal.returns-in_err-push
 unfolding attaching_at entering_at
