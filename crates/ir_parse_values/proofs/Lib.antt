@@ -1,3 +1,4 @@
 mod Bodies
 mod Closings
 mod Initials
+mod Following
