@@ -8,7 +8,7 @@ use Rattle.ir_parse_parts.specs.MetadataAt.{COMMA}
 use Rattle.ir_parse_operands.proofs.Levels.{first_and_others}
 use Rattle.ir_parse_bodies.specs.CallsAt.{further_type_at, types_behind_at}
 use Rattle.ir_parse_bodies.proofs.CallRules.{further_type_rule}
-use Rattle.ir_parse_bodies.proofs.Successions.{fails_as, passed_on}
+use Rattle.ir_parse_bodies.proofs.Successions.{passed_on}
 use Rattle.ir_parse_bodies.proofs.calls.types_behind_at.Goals as goal
 
 pub each-smaller : goal.each-smaller

@@ -1,4 +1,4 @@
-use Rattle.std.proofs.Common.{List, ap, refl, sym, ◌∙◌}
+use Rattle.std.proofs.Common.{List, refl, sym, ◌∙◌}
 use Rattle.std.proofs.Common.{ℕ, Result, ap₂}
 use Rattle.ir_lex.specs.Tok.{Tok}
 use Rattle.ir_parse_parts.specs.declared.fault.Fault.{Fault}
