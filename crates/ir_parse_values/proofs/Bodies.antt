@@ -37,7 +37,7 @@ regroup b l (Err e) = refl
 abbrev ok : {A : Type 0} → A → Result A Fault
 ok a = Ok a
 
-abbrev or_else : {A : Type 0} → A → Result A Fault → A
+abbrev pub or_else : {A : Type 0} → A → Result A Fault → A
 or_else a (Ok b) = b
 or_else a (Err e) = a
 

@@ -2,3 +2,4 @@ mod Bodies
 mod Closings
 mod Initials
 mod Following
+mod BlockLoops
