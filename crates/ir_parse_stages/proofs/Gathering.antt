@@ -1,5 +1,5 @@
 -- Marks behind marks.
-use Rattle.std.proofs.Common.{◌≡◌, sym, ap, ◌∙◌, ℕ, ◌+◌, ◌<◌, List, ◌∷◌, ◌++◌, length, drop, get_or, append_assoc}
+use Rattle.std.proofs.Common.{◌≡◌, sym, ap, ◌∙◌, ℕ, ◌+◌, ◌<◌, List, ◌∷◌, ◌++◌, length, drop, get_or, append_assoc, OnOk, Result, Ok, Err}
 use Rattle.ir_parse_parts.specs.declared.address.Level.{Level}
 use Rattle.ir_parse_names.specs.Marks.{Mark, uses, level_uses}
 use Rattle.ir_parse_names.proofs.Each.{here}
@@ -7,6 +7,11 @@ use Rattle.ir_parse_names.proofs.Each.{here}
 -- marks, and then more
 pub joined : (first second old mid new : List Mark) → mid ≡ old ++ first → new ≡ mid ++ second → new ≡ old ++ (first ++ second)
 joined first second old mid new h g = g ∙ ap (λ ms. ms ++ second) h ∙ append_assoc old first second
+
+-- marks, and then more, where there is memory for them
+pub joined_if : {X E : Type 0} (result : Result X E) (first second whole old mid new : List Mark) → whole ≡ first ++ second → mid ≡ old ++ first → OnOk result (new ≡ mid ++ second) → OnOk result (new ≡ old ++ whole)
+joined_if (Ok x) first second whole old mid new e h g = joined first second old mid new h g ∙ ap (λ ms. old ++ ms) (sym e)
+joined_if (Err d) first second whole old mid new e h g = tt
 
 -- those of one more item of a list
 pub goes_on : {A : Type 0} (f : A → List Mark) (g : List A → List Mark) → ((y : A) (ys : List A) → g (y ∷ ys) ≡ f y ++ g ys) → (xs : List A) (k : ℕ) (x : A) (start now next : List Mark)

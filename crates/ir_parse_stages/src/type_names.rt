@@ -105,6 +105,30 @@ fn all_typed<'t>(
     Ok(types)
 }
 
+/// The circles of the graph of type names.
+fn circles_of<'t>(alloc: Global, all: &TypeNames<'t>) -> Result<Circles, ResolveError>
+    ensures { ResolvesTo (λ c. c) result (Ok (graph_of all.now)) }
+{
+    let graph = graph_of(alloc, all)?;
+    let circles = Circles::of(alloc, graph)?;
+    Ok(circles)
+}
+
+/// The type names of a module, given the first definition of each, and the circles of their graph.
+fn types_off_circles<'t>(
+    alloc: Global,
+    all: &TypeNames<'t>,
+    circles: &Circles,
+    rows: &[Mark<'t>],
+) -> Result<Types<'t>, ResolveError>
+    requires { circles.now ≡ graph_of all.now }
+    ensures { ResolvesTo (λ t. t) result (all_typed all.now [] (marks rows.now)) }
+{
+    let names = all_typed(alloc, all, circles, rows)?;
+    let types = Types::of(alloc, names)?;
+    Ok(types)
+}
+
 /// The type names of a module, given the first definition of each.
 fn types_with<'t>(
     alloc: Global,
@@ -113,10 +137,8 @@ fn types_with<'t>(
 ) -> Result<Types<'t>, ResolveError>
     ensures { ResolvesTo (λ t. t) result (all_typed all.now [] (marks rows.now)) }
 {
-    let circles = Circles::of(alloc, graph_of(alloc, all)?)?;
-    let names = all_typed(alloc, all, &circles, rows)?;
-    let types = Types::of(alloc, names)?;
-    Ok(types)
+    let circles = circles_of(alloc, all)?;
+    types_off_circles(alloc, all, &circles, rows)
 }
 
 /// The type names of a module. A fault is at the first token that defines a name a second time, or that uses

@@ -13,7 +13,7 @@ returns-then-branch c =
 
 pub each-preserved : goal.each-preserved
 each-preserved c =
-    let within : c.each.head < length c.each.search.found.items = search rules in
+    let within : c.each.head < length c.each.search.found.items = subst (λ n. c.each.head < n) (c.len-in-each.ensures ∙ c.each.search.found.ok.0) c.each-test.true in
     let row = c.next-row.ensures ∙ ap (next c.args.graph.now) c.found_at.ensures in
     let begun = pass_start c.args.graph.now c.args.start c.each.search.found.items c.each.search.seen.items c.each.head c.each.invariant within c.next-row.result.now row in
     let ended : IsPassing c.args.graph.now c.args.start c.pass.new.self.found.items c.pass.new.self.seen.items c.each.head c.next-row.result.now (length c.next-row.result.now) = search (begun, rules) in
