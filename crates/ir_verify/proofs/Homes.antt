@@ -5,6 +5,7 @@ use Rattle.std.specs.List.{cons_option}
 use Rattle.std.proofs.lemmas.Bool.{or_cases, or_left, or_right, eqb-true, eq-eqb, ne_eqb, false≢true}
 use Rattle.std.proofs.lemmas.List.{map-append}
 use Rattle.std.proofs.lemmas.List.Folds.{list_any-append}
+use Rattle.std.proofs.lemmas.Option.{none-some, same_Some}
 use Rattle.ir_tree.specs.declared.block.Block.{Block}
 use Rattle.ir_tree.specs.declared.function.Function.{Function}
 use Rattle.ir_tree.specs.declared.function.Param.{Param}
@@ -20,12 +21,6 @@ use Rattle.ir_verify.specs.Definitions.{Pair, param_pair, param_pairs, phi_pairs
 use Rattle.ir_verify.specs.Homes.{IsBorn, IsHome}
 use Rattle.ir_verify.specs.Tables.{found}
 use Rattle.ir_verify.proofs.Found.{found_first, found_last}
-
-some_is : {X : Type 0} (a b : X) → ◌≡◌ {A = Option X} (Some a) (Some b) → a ≡ b
-some_is a b e = cc
-
-none_some : {X : Type 0} (a : X) → ◌≡◌ {A = Option X} None (Some a) → ⊥
-none_some a e = absurd (cc e)
 
 home : ℕ → ℕ → Home
 home b k = record { block = b; after = k }
@@ -89,7 +84,7 @@ not_found [] x e h = false≢true h
 not_found (p ∷ ps) x e h = step (not_found ps x) (nat_eq p.0 x) refl e
   where
     step : (found ps x ≡ None → holds (keys ps) x ≡ true → ⊥) → (t : Bool) → nat_eq p.0 x ≡ t → (if t then Some p.1 else found ps x) ≡ None → ⊥
-    step again true q s = none_some p.1 (sym s)
+    step again true q s = none-some p.1 (sym s)
     step again false q s = again s (sym (ap (λ (v : Bool). v || holds (keys ps) x) (apart p.0 x q)) ∙ h)
 
 -- a local of the function is found
@@ -98,7 +93,7 @@ local_found f x h e = not_found (definitions f) x e (subst (λ xs. holds xs x �
 
 held_key : (ps : List Pair) (x : ℕ) (d : Definition) → found ps x ≡ Some d → holds (keys ps) x ≡ true
 unfolding keys
-held_key [] x d e = absurd (none_some d e)
+held_key [] x d e = absurd (none-some d e)
 held_key (p ∷ ps) x d e = step (held_key ps x d) (nat_eq p.0 x) refl e
   where
     step : (found ps x ≡ Some d → holds (keys ps) x ≡ true) → (t : Bool) → nat_eq p.0 x ≡ t → (if t then Some p.1 else found ps x) ≡ Some d → (nat_eq x p.0 || holds (keys ps) x) ≡ true
@@ -116,16 +111,16 @@ from_params [] qs x d e = inr e
 from_params (p ∷ ps) qs x d e = step (from_params ps qs x d) (nat_eq p.local x) refl e
   where
     step : (found (param_pairs ps ++ qs) x ≡ Some d → ((holds (map (λ p. p.local) ps) x ≡ true) × (d.home ≡ None)) ⊎ (found qs x ≡ Some d)) → (t : Bool) → nat_eq p.local x ≡ t → (if t then Some (param_pair p).1 else found (param_pairs ps ++ qs) x) ≡ Some d → ((holds (map (λ p. p.local) (p ∷ ps)) x ≡ true) × (d.home ≡ None)) ⊎ (found qs x ≡ Some d)
-    step again true q s = inl (or_left (nat_eq x p.local) (holds (map (λ p. p.local) ps) x) (turned p.local x q), sym (ap (λ (v : Definition). v.home) (some_is (param_pair p).1 d s)))
+    step again true q s = inl (or_left (nat_eq x p.local) (holds (map (λ p. p.local) ps) x) (turned p.local x q), sym (ap (λ (v : Definition). v.home) (same_Some (param_pair p).1 d s)))
     step again false q s = elim (again s) [ inl w ↦ inl (or_right (nat_eq x p.local) (holds (map (λ p. p.local) ps) x) w.0, w.1) | inr w ↦ inr w ]
 
 from_phis : (b : ℕ) (ps : List Phi) (x : ℕ) (d : Definition) → found (phi_pairs b ps) x ≡ Some d → (holds (map (λ p. p.local) ps) x ≡ true) × (d.home ≡ Some (home b 0))
 unfolding home
-from_phis b [] x d e = absurd (none_some d e)
+from_phis b [] x d e = absurd (none-some d e)
 from_phis b (p ∷ ps) x d e = step (from_phis b ps x d) (nat_eq p.local x) refl e
   where
     step : (found (phi_pairs b ps) x ≡ Some d → (holds (map (λ p. p.local) ps) x ≡ true) × (d.home ≡ Some (record { block = b; after = 0 }))) → (t : Bool) → nat_eq p.local x ≡ t → (if t then Some (record { reg = Some p.reg; home = Some (record { block = b; after = 0 }) }) else found (phi_pairs b ps) x) ≡ Some d → (holds (map (λ p. p.local) (p ∷ ps)) x ≡ true) × (d.home ≡ Some (record { block = b; after = 0 }))
-    step again true q s = (or_left (nat_eq x p.local) (holds (map (λ p. p.local) ps) x) (turned p.local x q), sym (ap (λ (v : Definition). v.home) (some_is (record { reg = Some p.reg; home = Some (record { block = b; after = 0 }) }) d s)))
+    step again true q s = (or_left (nat_eq x p.local) (holds (map (λ p. p.local) ps) x) (turned p.local x q), sym (ap (λ (v : Definition). v.home) (same_Some (record { reg = Some p.reg; home = Some (record { block = b; after = 0 }) }) d s)))
     step again false q s = let w = again s in (or_right (nat_eq x p.local) (holds (map (λ p. p.local) ps) x) w.0, w.1)
 
 -- the line m gives the local, and none before it
@@ -158,7 +153,7 @@ given_here l ls y x q t = record { here = here; first = first; below = omega ari
 
 from_lines : (b n : ℕ) (ls : List Line) (x : ℕ) (d : Definition) → found (line_pairs b n ls) x ≡ Some d → (m : ℕ) × (d.home ≡ Some (home b (n + suc m))) × IsGiven ls m x
 unfolding home
-from_lines b n [] x d e = absurd (none_some d e)
+from_lines b n [] x d e = absurd (none-some d e)
 from_lines b n (l ∷ ls) x d e = by (from_lines b (suc n) ls x d) l.local refl e
   where
     further : (found (line_pairs b (suc n) ls) x ≡ Some d → (m : ℕ) × (d.home ≡ Some (home b (suc n + suc m))) × IsGiven ls m x) → ((ys : List ℕ) → holds (cons_option l.local ys) x ≡ holds ys x) → found (line_pairs b (suc n) ls) x ≡ Some d → (m : ℕ) × (d.home ≡ Some (home b (n + suc m))) × IsGiven (l ∷ ls) m x
@@ -170,7 +165,7 @@ from_lines b n (l ∷ ls) x d e = by (from_lines b (suc n) ls x d) l.local refl 
     at : (found (line_pairs b (suc n) ls) x ≡ Some d → (m : ℕ) × (d.home ≡ Some (home b (suc n + suc m))) × IsGiven ls m x) → (y : ℕ) → l.local ≡ Some y → (t : Bool) → nat_eq y x ≡ t → (if t then Some (record { reg = result_type l.instr; home = Some (record { block = b; after = suc n }) }) else found (line_pairs b (suc n) ls) x) ≡ Some d → (m : ℕ) × (d.home ≡ Some (home b (n + suc m))) × IsGiven (l ∷ ls) m x
     at again y q true t s =
         let same : suc n ≡ n + suc 0 = omega arith in
-        (0, sym (ap (λ (v : Definition). v.home) (some_is (record { reg = result_type l.instr; home = Some (record { block = b; after = suc n }) }) d s)) ∙ ap (λ (k : ℕ). Some (home b k)) same, given_here l ls y x q t)
+        (0, sym (ap (λ (v : Definition). v.home) (same_Some (record { reg = result_type l.instr; home = Some (record { block = b; after = suc n }) }) d s)) ∙ ap (λ (k : ℕ). Some (home b k)) same, given_here l ls y x q t)
     at again y q false t s =
         further again (λ ys. ap (λ o. holds (cons_option o ys) x) q ∙ ap (λ (v : Bool). v || holds ys x) (apart y x t)) s
 
@@ -190,7 +185,7 @@ from_block b block x d e = by (found (phi_pairs b block.phis) x) refl
 
     by : (o : Option Definition) → found (phi_pairs b block.phis) x ≡ o → (a : ℕ) × (d.home ≡ Some (home b a)) × IsBorn block a x
     by (Some w) q =
-        let same = some_is w d (sym (found_first (phi_pairs b block.phis) (line_pairs b 0 block.lines) x w q) ∙ e) in
+        let same = same_Some w d (sym (found_first (phi_pairs b block.phis) (line_pairs b 0 block.lines) x w q) ∙ e) in
         let phi = from_phis b block.phis x w q in
         let all : (xs : List ℕ) → holds (phi_locals block ++ xs) x ≡ true = λ xs. join xs ∙ or_left (holds (phi_locals block) x) (holds xs x) phi.0 in
         (0, sym (ap (λ (v : Definition). v.home) same) ∙ phi.1, record { here = λ k h. all (results (take k block.lines)); first = λ k h. omega arith; defined = all (results block.lines) })
@@ -209,12 +204,12 @@ from_block b block x d e = by (found (phi_pairs b block.phis) x) refl
         )
 
 from_blocks : (b : ℕ) (bs : List Block) (x : ℕ) (d : Definition) → found (blocks_pairs b bs) x ≡ Some d → (j : ℕ) × (block : Block) × (a : ℕ) × (slice_get bs j ≡ Some block) × (d.home ≡ Some (home (b + j) a)) × IsBorn block a x
-from_blocks b [] x d e = absurd (none_some d e)
+from_blocks b [] x d e = absurd (none-some d e)
 from_blocks b (block ∷ bs) x d e = by (from_blocks (suc b) bs x d) (found (block_pairs b block) x) refl
   where
     by : (found (blocks_pairs (suc b) bs) x ≡ Some d → (j : ℕ) × (bl : Block) × (a : ℕ) × (slice_get bs j ≡ Some bl) × (d.home ≡ Some (home (suc b + j) a)) × IsBorn bl a x) → (o : Option Definition) → found (block_pairs b block) x ≡ o → (j : ℕ) × (bl : Block) × (a : ℕ) × (slice_get (block ∷ bs) j ≡ Some bl) × (d.home ≡ Some (home (b + j) a)) × IsBorn bl a x
     by again (Some w) q =
-        let same = some_is w d (sym (found_first (block_pairs b block) (blocks_pairs (suc b) bs) x w q) ∙ e) in
+        let same = same_Some w d (sym (found_first (block_pairs b block) (blocks_pairs (suc b) bs) x w q) ∙ e) in
         let r = from_block b block x w q in
         let at : b ≡ b + 0 = omega arith in
         (0, block, r.0, refl, sym (ap (λ (v : Definition). v.home) same) ∙ r.1 ∙ ap (λ (c : ℕ). Some (home c r.0)) at, r.2)
@@ -229,7 +224,7 @@ unfolding definitions
 found_parameter f x d e n =
     elim (from_params f.params (blocks_pairs 0 f.blocks) x d e) [
       | inl w ↦ w.0
-      | inr w ↦ (let r = from_blocks 0 f.blocks x d w in absurd (none_some (home (0 + r.0) r.2) (sym n ∙ r.4)))
+      | inr w ↦ (let r = from_blocks 0 f.blocks x d w in absurd (none-some (home (0 + r.0) r.2) (sym n ∙ r.4)))
     ]
 
 -- any other is defined in its home
@@ -237,9 +232,9 @@ pub found_home : (f : Function) (x : ℕ) (d : Definition) (h : Home) → found 
 unfolding definitions home
 found_home f x d h e n =
     elim (from_params f.params (blocks_pairs 0 f.blocks) x d e) [
-      | inl w ↦ absurd (none_some h (sym w.1 ∙ n))
+      | inl w ↦ absurd (none-some h (sym w.1 ∙ n))
       | inr w ↦ (let r = from_blocks 0 f.blocks x d w in
-          let same : home r.0 r.2 ≡ h = ap (λ (c : ℕ). home c r.2) (omega arith) ∙ some_is (home (0 + r.0) r.2) h (sym r.4 ∙ n) in
+          let same : home r.0 r.2 ≡ h = ap (λ (c : ℕ). home c r.2) (omega arith) ∙ same_Some (home (0 + r.0) r.2) h (sym r.4 ∙ n) in
           subst (λ (v : Home). IsHome f v x) same (at r.0 r.1 r.2 r.3 r.5))
     ]
   where

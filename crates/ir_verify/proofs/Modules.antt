@@ -3,6 +3,7 @@ use Rattle.std.proofs.Common.{◌≡◌, ℕ, zero, suc, ◌+◌, ◌<◌, List,
 use Rattle.std.specs.Prelude.{slice_get, length, All, IfSome, MatchOption, Option, Some, None}
 use Rattle.std.specs.List.{AllZip}
 use Rattle.std.proofs.lemmas.Bool.{cases_lt}
+use Rattle.std.proofs.lemmas.Option.{same_Some}
 use Rattle.ir_tree.specs.declared.function.Function.{Function}
 use Rattle.ir_tree.specs.declared.function.Variable.{Variable}
 use Rattle.ir_tree.specs.declared.module.GlobalValue.{GlobalValue}
@@ -23,14 +24,8 @@ use Rattle.ir_verify.proofs.Keys.{got_below}
 pub zip_at : {A B : Type 0} (R : A → B → Type 0) (xs : List A) (ys : List B) (i : ℕ) (x : A) (y : B) → AllZip R xs ys → slice_get xs i ≡ Some x → slice_get ys i ≡ Some y → R x y
 zip_at R [] ys i x y z e d = absurd (cc e)
 zip_at R (a ∷ xs) [] i x y z e d = absurd z
-zip_at R (a ∷ xs) (b ∷ ys) zero x y z e d = subst (λ w. R w y) (some_is a x e) (subst (λ w. R a w) (some_is b y d) z.0)
-  where
-    some_is : {X : Type 0} (a b : X) → ◌≡◌ {A = Option X} (Some a) (Some b) → a ≡ b
-    some_is a b e = cc
+zip_at R (a ∷ xs) (b ∷ ys) zero x y z e d = subst (λ w. R w y) (same_Some a x e) (subst (λ w. R a w) (same_Some b y d) z.0)
 zip_at R (a ∷ xs) (b ∷ ys) (suc i) x y z e d = zip_at R xs ys i x y z.1 e d
-
-some_is : {X : Type 0} (a b : X) → ◌≡◌ {A = Option X} (Some a) (Some b) → a ≡ b
-some_is a b e = cc
 
 before_or_at : (k j : ℕ) → k < j + 1 → (k < j) ⊎ (k ≡ j)
 before_or_at k j l = elim (cases_lt k j) [ inl p ↦ inl p | inr p ↦ inr (omega arith) ]
@@ -47,19 +42,19 @@ module _ (gs : List GlobalValue) (lines : List (List ℕ)) (j : ℕ) (old new : 
   over_global g ls at on w = record {
     sound = λ n k h l got. elim (before_or_at k j l) [
       | inl p ↦ o.sound (none_before old new w.before n) k h p got
-      | inr q ↦ subst GlobalSound (some_is g h (sym at ∙ ap (slice_get gs) (sym q) ∙ got)) (w.sound n)
+      | inr q ↦ subst GlobalSound (same_Some g h (sym at ∙ ap (slice_get gs) (sym q) ∙ got)) (w.sound n)
     ];
     covers = λ k h ms rule line l got here broken. elim (before_or_at k j l) [
       | inl p ↦ w.before line rule (o.covers k h ms rule line p got here broken)
       | inr q ↦
-          (let same = some_is g h (sym at ∙ ap (slice_get gs) (sym q) ∙ got) in
-          let lines_same = some_is ls ms (sym on ∙ ap (slice_get lines) (sym q) ∙ here) in
+          (let same = same_Some g h (sym at ∙ ap (slice_get gs) (sym q) ∙ got) in
+          let lines_same = same_Some ls ms (sym on ∙ ap (slice_get lines) (sym q) ∙ here) in
           w.covers rule line (subst (λ (z : GlobalValue). GlobalBreaks z ls rule line) (sym same) (subst (λ (m : List ℕ). GlobalBreaks h m rule line) (sym lines_same) broken)))
     ];
     found = λ e n. elim w.origin [
       | inl s ↦ o.found e (sym s ∙ n)
       | inr u ↦
-          (let same = some_is u.0 e (sym u.1 ∙ n) in (
+          (let same = same_Some u.0 e (sym u.1 ∙ n) in (
             j,
             g,
             ls,
@@ -95,7 +90,7 @@ pub past_other : (v : Variable) (ls : List ℕ) (line : ℕ) (k : ℕ) (old new 
 past_other v ls line k old new on never p = record {
   sound = λ n. absurd (subst (λ (w : Option VerifyFault). AtMost w line TypeMismatch) n (p.here TypeMismatch refl));
   covers = λ rule l b.
-      let lines_same : line ≡ l = some_is line l (sym on ∙ b.1) in
+      let lines_same : line ≡ l = same_Some line l (sym on ∙ b.1) in
       subst (λ (m : ℕ). AtMost new m rule) lines_same (subst (λ (r : Rule). AtMost new line r) (sym b.0) (p.here TypeMismatch refl));
   before = p.before;
   origin = elim p.origin [
@@ -111,7 +106,7 @@ past_other v ls line k old new on never p = record {
 
 -- what stands among these and one more is one of these, or the last one
 pushed_at : {A : Type 0} (items : List A) (last : A) (k : ℕ) (x : A) → slice_get (items ++ last ∷ []) k ≡ Some x → (slice_get items k ≡ Some x) ⊎ ((k ≡ length items) × (last ≡ x))
-pushed_at [] last zero x e = inr (refl, some_is last x e)
+pushed_at [] last zero x e = inr (refl, same_Some last x e)
 pushed_at [] last (suc k) x e = absurd (cc e)
 pushed_at (i ∷ items) last zero x e = inl e
 pushed_at (i ∷ items) last (suc k) x e = elim (pushed_at items last k x e) [ inl a ↦ inl a | inr p ↦ inr (ap suc p.0, p.1) ]
@@ -123,7 +118,7 @@ counted (x ∷ flows) last = ap suc (counted flows last)
 pub flow_pushed : (gs : List GlobalValue) (flows : List (Option Flow)) (last : Option Flow) (g : GlobalValue) → AreFlows gs flows → slice_get gs (length flows) ≡ Some g → IfSome last (IsValueFlow g) → AreFlows gs (flows ++ last ∷ [])
 flow_pushed gs flows last g before at now k h flow got here = elim (pushed_at flows last k (Some flow) here) [
   | inl old ↦ before k h flow got old
-  | inr new ↦ subst (λ (h : GlobalValue). IsValueFlow h flow) (some_is g h (sym at ∙ ap (slice_get gs) (sym new.0) ∙ got)) (subst (λ (o : Option Flow). IfSome o (IsValueFlow g)) new.1 now)
+  | inr new ↦ subst (λ (h : GlobalValue). IsValueFlow h flow) (same_Some g h (sym at ∙ ap (slice_get gs) (sym new.0) ∙ got)) (subst (λ (o : Option Flow). IfSome o (IsValueFlow g)) new.1 now)
 ]
 
 -- ---- what was found over all globals

@@ -1,6 +1,7 @@
 -- The items of a block, by their numbers among those of the function.
 use Rattle.std.proofs.Common.{◌≡◌, ℕ, zero, suc, ◌+◌, ◌≤◌, ◌-◌, List, [], ◌∷◌, ◌++◌, length, drop, refl, sym, ap, ◌∙◌, arith}
 use Rattle.std.specs.Prelude.{map, slice_get, Option, Some}
+use Rattle.std.proofs.lemmas.Option.{same_Some}
 use Rattle.ir_tree.specs.declared.block.Block.{Block}
 use Rattle.ir_tree.specs.declared.function.Function.{Function}
 use Rattle.ir_tree.specs.declared.instr.Line.{Line}
@@ -25,19 +26,13 @@ got_right (z ∷ xs) ys j = let e : suc (length xs) + j ≡ suc (length xs + j) 
 
 got_map : {X Y : Type 0} (g : X → Y) (xs : List X) (j : ℕ) (x : X) → slice_get xs j ≡ Some x → slice_get (map g xs) j ≡ Some (g x)
 got_map g [] j x e = absurd (cc e)
-got_map g (z ∷ xs) zero x e = let s = some z x e in ap (λ w. Some (g w)) s
-  where
-    some : {X : Type 0} (a b : X) → ◌≡◌ {A = Option X} (Some a) (Some b) → a ≡ b
-    some a b e = cc
+got_map g (z ∷ xs) zero x e = let s = same_Some z x e in ap (λ w. Some (g w)) s
 got_map g (z ∷ xs) (suc j) x e = got_map g xs j x e
-
-some_is : {X : Type 0} (a b : X) → ◌≡◌ {A = Option X} (Some a) (Some b) → a ≡ b
-some_is a b e = cc
 
 got_line : (b n : ℕ) (ls : List Line) (k m : ℕ) (l : Line) → slice_get ls k ≡ Some l → m ≡ n + k → slice_get (lines_from b n ls) k ≡ Some (line_item b m l)
 got_line b n [] k m l e q = absurd (cc e)
 got_line b n (z ∷ ls) zero m l e q =
-    let s = some_is z l e in
+    let s = same_Some z l e in
     let p : n ≡ m = omega arith in
     ap (λ (i : ℕ). Some (line_item b i z)) p ∙ ap (λ (w : Line). Some (line_item b m w)) s
 got_line b n (z ∷ ls) (suc k) m l e q = got_line b (suc n) ls k m l e (omega arith)
@@ -89,7 +84,7 @@ onward_start f = refl
 
 drop_got : {X : Type 0} (xs : List X) (i : ℕ) (x : X) → slice_get xs i ≡ Some x → drop i xs ≡ x ∷ drop (suc i) xs
 drop_got [] i x e = absurd (cc e)
-drop_got (z ∷ xs) zero x e = let s = some_is z x e in ap (λ w. w ∷ xs) s
+drop_got (z ∷ xs) zero x e = let s = same_Some z x e in ap (λ w. w ∷ xs) s
 drop_got (z ∷ xs) (suc i) x e = drop_got xs i x e
 
 pub onward_stands : (f : Function) (b at : ℕ) (block : Block) → slice_get f.blocks b ≡ Some block → Onward f b at → Stands f b block at
